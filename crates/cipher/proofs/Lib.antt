@@ -1,0 +1,9 @@
+pub mod Bytes
+pub mod Every
+pub mod Tables
+pub mod Inverse
+pub mod Mixing
+pub mod Rounds
+pub mod Stores
+pub mod Schedule
+pub mod Examples

@@ -1,0 +1,53 @@
+use Prim.Native.Nat.{ℕ, _+_, _*_, _≤_, _-_}
+use mathlib.Core.Path.{_≡_, ap, ap₂, sym, _∙_}
+use mathlib.Core.List.{List}
+use native.Mathlib.Nat.{le-of-eq}
+use native.Mathlib.Omega.{arith}
+use lib.ListN.{length, take}
+use lib.Seq.{take-all}
+use Rattle.cipher.specs.KeyExpansion.{firstWords, nextRoundKey, keyExpansion}
+use Rattle.cipher.specs.Words.{stateOf}
+use Rattle.cipher.proofs.Schedule.{Filled, filled-more}
+use borrow.Author.Needs.{needs}
+use Rattle.cipher.proofs.key.expand.Statement.{statement}
+use Rattle.cipher.proofs.key.expand.Tie as tie
+
+abbrev Inv-loop : tie.InvT-loop
+Inv-loop s w₀ k₀ i₀ w k i = (i ≤ 10) × Filled (stateOf k₀) w k i
+
+abbrev μ-loop : tie.MeasureT-loop
+μ-loop s w₀ k₀ i₀ w k i = 10 - i
+
+loop-holds : tie.Need-loop-holds Inv-loop μ-loop
+unfolding firstWords
+loop-holds c =
+    let e = c .put .ensures in
+    (search needs, record { whole = ap length e; words = ap (take 16) e; last = ap (take 16) e })
+
+loop-again : tie.Need-loop-again Inv-loop μ-loop
+loop-again c =
+    let taken = c .before .before .before .before in
+    let turn = taken .before in
+    let next = c .before .before .next in
+    let filled = filled-more _ (turn .loop .w) (turn .loop .k) (next .result) (turn .loop .i) (taken .loop-test .taken)
+    (turn .loop .inv .1) (next .ensures ∙ ap (λ (b : ℕ). nextRoundKey b (stateOf (turn .loop .k))) (c .before .before .before .constant .ensures)) in
+    (search needs, rw (c .put2 .ensures) filled)
+
+returns : tie.Need-returns Inv-loop μ-loop
+unfolding keyExpansion
+returns c =
+    let loop = c .before .loop in
+    let n : loop .i ≡ 10 = omega arith in
+    let start = c .before .before .before .before .before .before in
+    let key = start .args .t2 in
+    let whole : take 16 key ≡ key = take-all 16 key (search needs) in
+    sym (take-all 176 (loop .w) (le-of-eq (loop .inv .1 .whole)))
+    ∙ ap (λ (i : ℕ). take (16 * i + 16) (loop .w)) (sym n) ∙ loop .inv .1 .words
+    ∙ ap₂ (λ (k : List ℕ) (i : ℕ). firstWords k (4 * i)) (c .before .before .before .before .columns-at .ensures ∙ whole) n
+
+pub expand-spec : {M : Type 1} → statement M
+expand-spec =
+    tie.close
+    (tie.spec
+    Inv-loop μ-loop (λ c. search needs) (λ c κs. search needs) (λ c κs. search needs) loop-holds (λ c κs. search needs)
+    (λ c κs. search needs) (λ c. search needs) (λ c. search needs) (λ c κs. search needs) (λ c. search needs) loop-again returns)

@@ -1,0 +1,20 @@
+use mathlib.Core.Path.{_≡_, ap, _∙_}
+use Prim.Native.Nat.{_/_}
+use native.Mathlib.Omega.{arith}
+use Rattle.cipher.specs.Words.{bytes}
+use Rattle.cipher.proofs.Bytes.{bytes-mod}
+use borrow.Author.Needs.{needs}
+use Rattle.cipher.proofs.round.row1.Statement.{statement}
+use Rattle.cipher.proofs.round.row1.Tie as tie
+
+returns : tie.Need-returns
+returns c =
+    let e = c .args .e in
+    let q : e / 16777216 ≡ e / 256 / 256 / 256 = omega arith in
+    bytes-mod 4 (e / 16777216) ∙ ap (bytes 4) q
+
+pub row1-spec : {M : Type 1} → statement M
+row1-spec =
+    tie.close
+    (tie.spec
+    (λ c. search needs) returns)

@@ -1,0 +1,13 @@
+use mathlib.Core.Path.{refl}
+use Rattle.cipher.specs.Field.{xTimes, timesLow, times, inverse}
+use Rattle.cipher.specs.SBox.{affine, sBox}
+use Rattle.cipher.proofs.Tables.{is-sbox}
+use Rattle.cipher.proofs.sbox.table.Statement.{statement}
+use Rattle.cipher.proofs.sbox.table.Tie as tie
+
+returns : tie.Need-returns
+unfolding xTimes timesLow times inverse affine sBox
+returns c = is-sbox _ refl tt
+
+pub table-spec : {M : Type 1} → statement M
+table-spec = tie.close (tie.spec returns)

@@ -1,0 +1,13 @@
+use Rattle.cipher.proofs.Bytes.{bytes-append}
+use borrow.Author.Needs.{needs}
+use Rattle.cipher.proofs.word.double_word.Statement.{statement}
+use Rattle.cipher.proofs.word.double_word.Tie as tie
+
+returns : tie.Need-returns
+returns c = bytes-append 4 4 (c .args .low) (c .args .high) (search needs)
+
+pub double-word-spec : {M : Type 1} → statement M
+double-word-spec =
+    tie.close
+    (tie.spec
+    (λ c. search needs) (λ c. search needs) returns)

@@ -1,0 +1,20 @@
+-- What the two tables hold.
+use mathlib.Core.Path.{_≡_}
+use mathlib.Core.List.{List, [], _∷_, _++_}
+use Prim.Native.Nat.{ℕ, _<_}
+use Rattle.cipher.specs.Bytes.{at}
+use Rattle.cipher.specs.Field.{times}
+use Rattle.cipher.specs.SBox.{sBox}
+use Rattle.cipher.specs.Words.{bytes}
+
+-- the substitution of each byte
+unfoldable pub IsSBox : List ℕ → Type 0
+IsSBox s = (b : ℕ) → b < 256 → at s b ≡ sBox b
+
+-- what mixing makes of the column s 0 0 0
+abbrev pub mixedColumn : ℕ → List ℕ
+mixedColumn s = times 2 s ∷ s ∷ s ∷ times 3 s ∷ []
+
+-- for each byte, the column that mixing makes of its substitution in row 0, twice in a row
+unfoldable pub IsRoundTable : List ℕ → Type 0
+IsRoundTable t = (b : ℕ) → b < 256 → bytes 8 (at t b) ≡ mixedColumn (sBox b) ++ mixedColumn (sBox b)

@@ -1,0 +1,88 @@
+// Key expansion: the ten round keys after the key, a round key at a time.
+use crate::Columns;
+use crate::word;
+ghost use mathlib.Core.Path.{_≡_};
+ghost use Prim.Native.Nat.{_+_, _≤_, _<_};
+ghost use lib.Seq.{sets};
+ghost use Rattle.cipher.specs.KeyExpansion.{subWord, rotWord, roundConstant, nextRoundKey, keyExpansion};
+ghost use Rattle.cipher.specs.Tables.{IsSBox};
+ghost use Rattle.cipher.specs.Words.{bytes, stateOf};
+
+// The expanded key.
+pub fn expand(s: &[u8; 256], key: [u8; 16]) -> [u8; 176]
+    requires { ⌜ IsSBox (now s) ⌝ }
+    ensures { λ r. ⌜ r ≡ keyExpansion key ⌝ }
+{
+    let mut w = [0u8; 176];
+    let mut k = word::columns_at(&key, 0);
+    put(&mut w, 0, k);
+    let mut i: usize = 0;
+    while i < 10 {
+        k = next(s, k, constant(i));
+        i += 1;
+        put(&mut w, 16 * i, k);
+    }
+    w
+}
+
+// The first byte of each round constant.
+const CONSTANTS: [u8; 10] = [0x01, 0x02, 0x04, 0x08, 0x10, 0x20, 0x40, 0x80, 0x1b, 0x36];
+
+// That of round i + 1.
+fn constant(i: usize) -> u8
+    requires { ⌜ i < 10 ⌝ }
+    ensures { λ r. ⌜ r ≡ roundConstant (i + 1) ⌝ }
+{
+    CONSTANTS[i]
+}
+
+// A word turned by a byte, and each byte substituted.
+fn turned(s: &[u8; 256], w: u32) -> u32
+    requires { ⌜ IsSBox (now s) ⌝ }
+    ensures { λ r. ⌜ bytes 4 r ≡ subWord (rotWord (bytes 4 w)) ⌝ }
+{
+    word::word_of(
+        s[word::byte1(w)],
+        s[word::byte2(w)],
+        s[word::byte3(w)],
+        s[word::byte0(w)],
+    )
+}
+
+// The round key after k, with b the first byte of its round constant.
+fn next(s: &[u8; 256], k: Columns, b: u8) -> Columns
+    requires { ⌜ IsSBox (now s) ⌝ }
+    ensures { λ r. ⌜ stateOf r ≡ nextRoundKey b (stateOf k) ⌝ }
+{
+    let c0 = k.c0 ^ (turned(s, k.c3) ^ b as u32);
+    let c1 = k.c1 ^ c0;
+    let c2 = k.c2 ^ c1;
+    let c3 = k.c3 ^ c2;
+    Columns {
+        c0: c0,
+        c1: c1,
+        c2: c2,
+        c3: c3,
+    }
+}
+
+// Puts a word, or a round key, into w from o.
+fn put_word(w: &mut [u8; 176], o: usize, v: u32)
+    requires { ⌜ o + 4 ≤ 176 ⌝ }
+    ensures { λ _. ⌜ now (w .exit) ≡ sets (now (w .entry)) o (bytes 4 v) ⌝ }
+{
+    w[o] = word::byte0(v) as u8;
+    w[o + 1] = word::byte1(v) as u8;
+    w[o + 2] = word::byte2(v) as u8;
+    w[o + 3] = word::byte3(v) as u8;
+}
+
+fn put(w: &mut [u8; 176], o: usize, k: Columns)
+    requires { ⌜ o + 16 ≤ 176 ⌝ }
+    ensures { λ _. ⌜ now (w .exit) ≡ sets (now (w .entry)) o (stateOf k) ⌝ }
+{
+    put_word(w, o, k.c0);
+    put_word(w, o + 4, k.c1);
+    put_word(w, o + 8, k.c2);
+    put_word(w, o + 12, k.c3);
+}
