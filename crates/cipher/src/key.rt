@@ -2,8 +2,7 @@
 use crate::Columns;
 use crate::word;
 ghost use mathlib.Core.Path.{_≡_};
-ghost use Prim.Native.Nat.{_+_, _≤_, _<_};
-ghost use lib.Seq.{sets};
+ghost use Prim.Native.Nat.{_+_, _<_};
 ghost use Rattle.cipher.specs.KeyExpansion.{subWord, rotWord, roundConstant, nextRoundKey, keyExpansion};
 ghost use Rattle.cipher.specs.Tables.{IsSBox};
 ghost use Rattle.cipher.specs.Words.{bytes, stateOf};
@@ -15,12 +14,12 @@ pub fn expand(s: &[u8; 256], key: [u8; 16]) -> [u8; 176]
 {
     let mut w = [0u8; 176];
     let mut k = word::columns_at(&key, 0);
-    put(&mut w, 0, k);
+    word::put_block(&mut w, 0, word::joined(k));
     let mut i: usize = 0;
     while i < 10 {
         k = next(s, k, constant(i));
         i += 1;
-        put(&mut w, 16 * i, k);
+        word::put_block(&mut w, 16 * i, word::joined(k));
     }
     w
 }
@@ -64,25 +63,4 @@ fn next(s: &[u8; 256], k: Columns, b: u8) -> Columns
         c2: c2,
         c3: c3,
     }
-}
-
-// Puts a word, or a round key, into w from o.
-fn put_word(w: &mut [u8; 176], o: usize, v: u32)
-    requires { ⌜ o + 4 ≤ 176 ⌝ }
-    ensures { λ _. ⌜ now (w .exit) ≡ sets (now (w .entry)) o (bytes 4 v) ⌝ }
-{
-    w[o] = word::byte0(v) as u8;
-    w[o + 1] = word::byte1(v) as u8;
-    w[o + 2] = word::byte2(v) as u8;
-    w[o + 3] = word::byte3(v) as u8;
-}
-
-fn put(w: &mut [u8; 176], o: usize, k: Columns)
-    requires { ⌜ o + 16 ≤ 176 ⌝ }
-    ensures { λ _. ⌜ now (w .exit) ≡ sets (now (w .entry)) o (stateOf k) ⌝ }
-{
-    put_word(w, o, k.c0);
-    put_word(w, o + 4, k.c1);
-    put_word(w, o + 8, k.c2);
-    put_word(w, o + 12, k.c3);
 }

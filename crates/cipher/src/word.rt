@@ -5,6 +5,7 @@ ghost use mathlib.Core.Path.{_≡_};
 ghost use mathlib.Core.List.{[], _∷_, _++_};
 ghost use Prim.Native.Nat.{_+_, _≤_, _<_};
 ghost use lib.ListN.{length};
+ghost use lib.Seq.{sets};
 ghost use Rattle.cipher.specs.Bytes.{at, part, xorBlock};
 ghost use Rattle.cipher.specs.Words.{bytes, stateOf, blockOf};
 
@@ -138,4 +139,26 @@ pub fn bytes_of(b: Block) -> [u8; 16]
         byte2(s.c3) as u8,
         byte3(s.c3) as u8,
     ]
+}
+
+// Puts a word or a block into s from o.
+fn put_word(s: &mut [u8], o: usize, v: u32)
+    requires { ⌜ o + 4 ≤ length (now s) ⌝ }
+    ensures { λ _. ⌜ now (s .exit) ≡ sets (now (s .entry)) o (bytes 4 v) ⌝ }
+{
+    s[o] = byte0(v) as u8;
+    s[o + 1] = byte1(v) as u8;
+    s[o + 2] = byte2(v) as u8;
+    s[o + 3] = byte3(v) as u8;
+}
+
+pub fn put_block(s: &mut [u8], o: usize, b: Block)
+    requires { ⌜ o + 16 ≤ length (now s) ⌝ }
+    ensures { λ _. ⌜ now (s .exit) ≡ sets (now (s .entry)) o (blockOf b) ⌝ }
+{
+    let k = split(b);
+    put_word(s, o, k.c0);
+    put_word(s, o + 4, k.c1);
+    put_word(s, o + 8, k.c2);
+    put_word(s, o + 12, k.c3);
 }

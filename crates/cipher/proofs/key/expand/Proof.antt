@@ -3,8 +3,8 @@ use mathlib.Core.Path.{_≡_, ap, ap₂, sym, _∙_}
 use mathlib.Core.List.{List}
 use native.Mathlib.Nat.{le-of-eq}
 use native.Mathlib.Omega.{arith}
-use lib.ListN.{length, take}
-use lib.Seq.{take-all}
+use lib.ListN.{length, take, replicate}
+use lib.Seq.{sets, take-all}
 use Rattle.cipher.specs.KeyExpansion.{firstWords, nextRoundKey, keyExpansion}
 use Rattle.cipher.specs.Words.{stateOf}
 use Rattle.cipher.proofs.Schedule.{Filled, filled-more}
@@ -21,33 +21,39 @@ abbrev μ-loop : tie.MeasureT-loop
 loop-holds : tie.Need-loop-holds Inv-loop μ-loop
 unfolding firstWords
 loop-holds c =
-    let e = c .put .ensures in
+    let put = c .before in
+    let e = put .put-block .ensures ∙ ap (sets (replicate 176 0) 0) (put .before .joined .ensures) in
     (search needs, record { whole = ap length e; words = ap (take 16) e; last = ap (take 16) e })
 
 loop-again : tie.Need-loop-again Inv-loop μ-loop
 loop-again c =
-    let taken = c .before .before .before .before in
+    let put = c .before in
+    let after = put .before .before .before in
+    let taken = after .before .before in
     let turn = taken .before in
-    let next = c .before .before .next in
-    let filled = filled-more _ (turn .loop .w) (turn .loop .k) (next .result) (turn .loop .i) (taken .loop-test .taken)
-    (turn .loop .inv .1) (next .ensures ∙ ap (λ (b : ℕ). nextRoundKey b (stateOf (turn .loop .k))) (c .before .before .before .constant .ensures)) in
-    (search needs, rw (c .put2 .ensures) filled)
+    let k = turn .loop .k in
+    let n = after .next .result in
+    let e = after .next .ensures ∙ ap (λ (b : ℕ). nextRoundKey b (stateOf k)) (after .before .constant .ensures) in
+    let filled = filled-more _ (turn .loop .w) k n (turn .loop .i) (taken .loop-test .taken) (turn .loop .inv .1) e in
+    let stored = put .put-block2 .ensures ∙ ap (sets (turn .loop .w) (16 * (turn .loop .i + 1))) (put .before .joined2 .ensures) in
+    (search needs, rw stored filled)
 
 returns : tie.Need-returns Inv-loop μ-loop
 unfolding keyExpansion
 returns c =
     let loop = c .before .loop in
     let n : loop .i ≡ 10 = omega arith in
-    let start = c .before .before .before .before .before .before in
-    let key = start .args .t2 in
+    let first = c .before .before .before .before .before .before in
+    let key = first .before .before .args .t2 in
     let whole : take 16 key ≡ key = take-all 16 key (search needs) in
     sym (take-all 176 (loop .w) (le-of-eq (loop .inv .1 .whole)))
     ∙ ap (λ (i : ℕ). take (16 * i + 16) (loop .w)) (sym n) ∙ loop .inv .1 .words
-    ∙ ap₂ (λ (k : List ℕ) (i : ℕ). firstWords k (4 * i)) (c .before .before .before .before .columns-at .ensures ∙ whole) n
+    ∙ ap₂ (λ (k : List ℕ) (i : ℕ). firstWords k (4 * i)) (first .columns-at .ensures ∙ whole) n
 
 pub expand-spec : {M : Type 1} → statement M
 expand-spec =
     tie.close
     (tie.spec
-    Inv-loop μ-loop (λ c. search needs) (λ c κs. search needs) (λ c κs. search needs) loop-holds (λ c κs. search needs)
-    (λ c κs. search needs) (λ c. search needs) (λ c. search needs) (λ c κs. search needs) (λ c. search needs) loop-again returns)
+    Inv-loop μ-loop (λ c. search needs) (λ c κs. search needs) (λ c. search needs) (λ c κs. search needs) (λ c κs. search needs)
+    loop-holds (λ c κs. search needs) (λ c κs. search needs) (λ c. search needs) (λ c. search needs) (λ c. search needs)
+    (λ c κs. search needs) (λ c κs. search needs) (λ c. search needs) loop-again returns)

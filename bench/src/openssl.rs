@@ -1,0 +1,139 @@
+//! OpenSSL's AES-128 and CMAC, through the calls a user makes.
+
+use crate::library::Library;
+use crate::subject::Chains;
+use std::ffi::{c_char, c_int, c_uint, c_void, CStr};
+use std::ptr::{null, null_mut};
+
+/// OSSL_PARAM, by which a CMAC learns its cipher.
+#[repr(C)]
+struct Parameter {
+    key: *const c_char,
+    data_type: c_uint,
+    data: *const c_void,
+    data_size: usize,
+    return_size: usize,
+}
+
+/// OSSL_PARAM_UTF8_STRING.
+const TEXT: c_uint = 4;
+
+type New = unsafe extern "C" fn() -> *mut c_void;
+type EncryptInit =
+    unsafe extern "C" fn(*mut c_void, *const c_void, *mut c_void, *const u8, *const u8) -> c_int;
+type SetPadding = unsafe extern "C" fn(*mut c_void, c_int) -> c_int;
+type EncryptUpdate =
+    unsafe extern "C" fn(*mut c_void, *mut u8, *mut c_int, *const u8, c_int) -> c_int;
+type MacFetch = unsafe extern "C" fn(*mut c_void, *const c_char, *const c_char) -> *mut c_void;
+type MacNew = unsafe extern "C" fn(*mut c_void) -> *mut c_void;
+type MacInit = unsafe extern "C" fn(*mut c_void, *const u8, usize, *const Parameter) -> c_int;
+type MacUpdate = unsafe extern "C" fn(*mut c_void, *const u8, usize) -> c_int;
+type MacFinal = unsafe extern "C" fn(*mut c_void, *mut u8, *mut usize, usize) -> c_int;
+
+/// OpenSSL under one key; its contexts stay until the program ends.
+pub struct OpenSsl {
+    cipher: *mut c_void,
+    encrypt: EncryptUpdate,
+    mac: *mut c_void,
+    init: MacInit,
+    update: MacUpdate,
+    finish: MacFinal,
+}
+
+/// Makes a context of AES-128-ECB without padding.
+unsafe fn make_cipher(library: &Library, key: &[u8; 16]) -> Result<*mut c_void, String> {
+    // SAFETY: the types are those of OpenSSL 3's headers.
+    unsafe {
+        let new: New = library.function(c"EVP_CIPHER_CTX_new")?;
+        let ecb: New = library.function(c"EVP_aes_128_ecb")?;
+        let init: EncryptInit = library.function(c"EVP_EncryptInit_ex")?;
+        let set_padding: SetPadding = library.function(c"EVP_CIPHER_CTX_set_padding")?;
+        let context = new();
+        let ready = init(context, ecb(), null_mut(), key.as_ptr(), null()) == 1;
+        if ready && set_padding(context, 0) == 1 {
+            return Ok(context);
+        }
+    }
+    Err(format!("{} makes no AES-128-ECB", library.name))
+}
+
+/// Makes a context of CMAC with AES-128-CBC.
+unsafe fn make_mac(library: &Library, key: &[u8; 16]) -> Result<*mut c_void, String> {
+    let cipher: &CStr = c"AES-128-CBC";
+    let parameter = |key: *const c_char, data_type, data, data_size| Parameter {
+        key,
+        data_type,
+        data,
+        data_size,
+        return_size: usize::MAX,
+    };
+    let parameters = [
+        parameter(
+            c"cipher".as_ptr(),
+            TEXT,
+            cipher.as_ptr().cast(),
+            cipher.count_bytes(),
+        ),
+        parameter(null(), 0, null(), 0),
+    ];
+    // SAFETY: the types are those of OpenSSL 3's headers, and an empty parameter ends the list.
+    unsafe {
+        let fetch: MacFetch = library.function(c"EVP_MAC_fetch")?;
+        let new: MacNew = library.function(c"EVP_MAC_CTX_new")?;
+        let init: MacInit = library.function(c"EVP_MAC_init")?;
+        let method = fetch(null_mut(), c"CMAC".as_ptr(), null());
+        if !method.is_null() {
+            let context = new(method);
+            if init(context, key.as_ptr(), 16, parameters.as_ptr()) == 1 {
+                return Ok(context);
+            }
+        }
+    }
+    Err(format!("{} makes no CMAC", library.name))
+}
+
+impl OpenSsl {
+    /// Loads the library and sets the key.
+    pub fn load(key: &[u8; 16]) -> Result<Self, String> {
+        let library = Library::open(&["libcrypto.so.3", "libcrypto.so"])?;
+        // SAFETY: the types are those of OpenSSL 3's headers.
+        unsafe {
+            Ok(OpenSsl {
+                cipher: make_cipher(&library, key)?,
+                encrypt: library.function(c"EVP_EncryptUpdate")?,
+                mac: make_mac(&library, key)?,
+                init: library.function(c"EVP_MAC_init")?,
+                update: library.function(c"EVP_MAC_update")?,
+                finish: library.function(c"EVP_MAC_final")?,
+            })
+        }
+    }
+}
+
+impl Chains for OpenSsl {
+    /// One call for each block.
+    fn encrypt_chain(&mut self, block: &mut [u8; 16], count: u64) {
+        let bytes = block.as_mut_ptr();
+        let mut written = 0;
+        for _ in 0..count {
+            // SAFETY: the key is set, and without padding a block is encrypted in place.
+            let answer = unsafe { (self.encrypt)(self.cipher, bytes, &mut written, bytes, 16) };
+            assert_eq!((answer, written), (1, 16), "OpenSSL encrypts a block");
+        }
+    }
+
+    /// Three calls for each tag; the first makes the context ready under the same key.
+    fn tag_chain(&mut self, message: &mut [u8], count: u64) {
+        let (bytes, length) = (message.as_mut_ptr(), message.len());
+        let mut written = 0;
+        for _ in 0..count {
+            // SAFETY: the key is set, and the message has room for a tag.
+            let done = unsafe {
+                (self.init)(self.mac, null(), 0, null()) == 1
+                    && (self.update)(self.mac, bytes, length) == 1
+                    && (self.finish)(self.mac, bytes, &mut written, 16) == 1
+            };
+            assert!(done && written == 16, "OpenSSL makes a tag");
+        }
+    }
+}

@@ -1,0 +1,108 @@
+//! What is compared: the columns of the table and what a competitor can do.
+
+use crate::plain::Plain;
+use crate::timing::stopwatch;
+use std::fmt;
+use std::hint::black_box;
+use std::time::Duration;
+
+/// The key of every competitor.
+pub const KEY: [u8; 16] = *b"key of one depot";
+
+/// Room for the longest message that is compared.
+const ROOM: usize = 200;
+
+/// One thing that is timed: a block, or a tag of a message of that length.
+#[derive(Clone, Copy, PartialEq)]
+pub enum Column {
+    Block,
+    Tag(usize),
+}
+
+/// The columns of the table.
+pub const COLUMNS: [Column; 3] = [Column::Block, Column::Tag(17), Column::Tag(73)];
+
+impl fmt::Display for Column {
+    /// The heading of the column.
+    fn fmt(&self, out: &mut fmt::Formatter) -> fmt::Result {
+        match self {
+            Column::Block => out.pad("block"),
+            Column::Tag(length) => out.pad(&format!("tag of {length}")),
+        }
+    }
+}
+
+/// The work of a competitor, under the key it was made with.
+pub trait Chains {
+    /// Encrypts the block that many times, one after the other.
+    fn encrypt_chain(&mut self, block: &mut [u8; 16], count: u64);
+
+    /// That many times, puts the tag of the message in place of its first 16 bytes.
+    fn tag_chain(&mut self, message: &mut [u8], count: u64);
+}
+
+/// Runs the work of one column at the start of a buffer.
+fn run(chains: &mut dyn Chains, column: Column, buffer: &mut [u8; ROOM], count: u64) {
+    match column {
+        Column::Block => {
+            let block = buffer.first_chunk_mut().expect("room for a block");
+            chains.encrypt_chain(block, count);
+        }
+        Column::Tag(length) => chains.tag_chain(&mut buffer[..length], count),
+    }
+}
+
+/// Compares a competitor with the reference, on blocks and on messages of several lengths.
+pub fn compare(chains: &mut dyn Chains) -> Result<(), String> {
+    let tags = [16, 17, 31, 32, 33, 73, 128, ROOM].map(Column::Tag);
+    let mut reference = Plain::new(&KEY);
+    for column in [Column::Block].into_iter().chain(tags) {
+        for count in [0, 1, 2, 25] {
+            let start: [u8; ROOM] = std::array::from_fn(|i| (i * i + 3 * i) as u8);
+            let (mut found, mut expected) = (start, start);
+            run(chains, column, &mut found, count);
+            run(&mut reference, column, &mut expected, count);
+            if found != expected {
+                return Err(format!(
+                    "{column}, {count} times: {:02x?}, the reference {:02x?}",
+                    &found[..16],
+                    &expected[..16]
+                ));
+            }
+        }
+    }
+    Ok(())
+}
+
+/// A row of the table: something that times its own work.
+pub trait Subject {
+    /// How long the work of that column takes, that many times.
+    fn measure(&mut self, column: Column, count: u64) -> Duration;
+}
+
+/// A competitor in this process.
+pub struct Local {
+    chains: Box<dyn Chains>,
+    buffer: [u8; ROOM],
+}
+
+impl Local {
+    /// Takes a competitor that agrees with the reference.
+    pub fn new(mut chains: Box<dyn Chains>) -> Result<Self, String> {
+        compare(chains.as_mut())?;
+        Ok(Local {
+            chains,
+            buffer: [0x31; ROOM],
+        })
+    }
+}
+
+impl Subject for Local {
+    /// Times the work here.
+    fn measure(&mut self, column: Column, count: u64) -> Duration {
+        let Local { chains, buffer } = self;
+        let taken = stopwatch(count, |count| run(chains.as_mut(), column, buffer, count));
+        black_box(&buffer);
+        taken
+    }
+}

@@ -1,0 +1,49 @@
+-- What a context gives, and what those above need to know of a tag.
+use mathlib.Core.Path.{_≡_, refl, sym, ap, ap₂, _∙_}
+use mathlib.Core.Bool.{Bool, true, false, cond}
+use mathlib.Core.List.{List, [], _∷_, _++_}
+use Prim.Native.Nat.{ℕ}
+use native.Mathlib.Nat.{le-of-eq}
+use lib.Dec.{ltb}
+use lib.ListN.{length, take, drop, replicate}
+use lib.Seq.{take-at, drop-at, take-all}
+use Rattle.cipher.specs.Bytes.{at, part, xorBlock}
+use Rattle.cipher.specs.Cipher.{cipherOf, encryptOf}
+use Rattle.cipher.specs.KeyExpansion.{keyExpansion}
+use Rattle.cipher.proofs.Rounds.{cipher-of-key, length-encrypt}
+use Rattle.cmac.specs.Cmac.{zeros, shifted, rb, double, subkey1, subkey2, blocks, complete, padding, lastBlock, chain, cmacWith, cmacBy, cmacOf}
+use Rattle.cmac.specs.Context.{subkeysOf, tagUnder}
+
+-- a tag has 16 bytes, whatever the key and the message hold
+pub length-cmac : (key m : List ℕ) → length (cmacOf key m) ≡ 16
+unfolding cmacOf cmacBy cmacWith
+length-cmac key m = length-encrypt key _
+
+-- with zeros for the subkeys, the tag of the zero block is its cipher
+pub tag-of-zeros : (w : List ℕ) → tagUnder w (replicate 32 0) (replicate 16 0) ≡ cipherOf w zeros
+unfolding tagUnder cmacWith chain lastBlock blocks complete xorBlock
+tag-of-zeros w = refl
+
+length-double : (l : List ℕ) → length (double l) ≡ 16
+unfolding double xorBlock
+length-double l = go (ltb (at l 0) 0x80)
+  where
+    go : (b : Bool) → length (cond b (shifted l) (xorBlock (shifted l) rb)) ≡ 16
+    go true = refl
+    go false = refl
+
+length-subkey1 : (e : List ℕ → List ℕ) → length (subkey1 e) ≡ 16
+unfolding subkey1
+length-subkey1 e = length-double (e zeros)
+
+-- the context of a key makes the tags of that key
+pub tag-of-context : (key m : List ℕ) → tagUnder (keyExpansion key) (subkeysOf key) m ≡ cmacOf key m
+unfolding tagUnder subkeysOf cmacOf cmacBy subkey2
+tag-of-context key m =
+    let k1 = subkey1 (encryptOf key) in
+    let k2 = double k1 in
+    let n1 : length k1 ≡ 16 = length-subkey1 (encryptOf key) in
+    let first : part (k1 ++ k2) 0 16 ≡ k1 = take-at k1 k2 16 n1 in
+    let second : part (k1 ++ k2) 16 16 ≡ k2 = ap (take 16) (drop-at k1 k2 16 n1) ∙ take-all 16 k2 (le-of-eq (length-double k1)) in
+    ap (λ (e : List ℕ → List ℕ). cmacWith e (part (k1 ++ k2) 0 16) (part (k1 ++ k2) 16 16) m) (cipher-of-key key)
+    ∙ ap₂ (λ (a b : List ℕ). cmacWith (encryptOf key) a b m) first second

@@ -1,0 +1,7 @@
+pub mod Fill
+pub mod Count
+pub mod Padding
+pub mod Chain
+pub mod Doubling
+pub mod Laws
+pub mod Examples

@@ -1,0 +1,62 @@
+use Prim.Native.Nat.{ℕ, _+_, _-_, _*_, _≤_}
+use mathlib.Core.Path.{_≡_, refl, sym, ap, ap₂, _∙_}
+use mathlib.Core.List.{List, []}
+use denote.Ref.{now}
+use native.Mathlib.Omega.{arith}
+use lib.ListN.{length}
+use Rattle.cipher.specs.Bytes.{xorBlock}
+use Rattle.cipher.specs.Cipher.{cipherOf}
+use Rattle.cipher.specs.Words.{blockOf}
+use Rattle.cmac.specs.Context.{tagUnder}
+use Rattle.cmac.proofs.Chain.{turns, turns-more, taken, turns-whole}
+use Rattle.cmac.proofs.Count.{last-counted}
+use borrow.Author.Needs.{needs}
+use Rattle.cmac.proofs.tag_block.Statement.{statement}
+use Rattle.cmac.proofs.tag_block.Tie as tie
+
+abbrev Inv-loop : tie.InvT-loop
+Inv-loop t w k m n last x₀ i₀ x i = (i ≤ n + 1) × (16 * n ≤ length m) × (blockOf x ≡ turns (cipherOf w) (taken m (blockOf last) n) i)
+
+abbrev μ-loop : tie.MeasureT-loop
+μ-loop t w k m n last x₀ i₀ x i = n + 1 - i
+
+loop-holds : tie.Need-loop-holds Inv-loop μ-loop
+unfolding turns
+loop-holds c =
+    let m = now (c .before .before .before .args .m) in
+    let counted = last-counted [] [] m (c .before .before-last .result) (c .before .before-last .ensures) in
+    (search needs, counted .low, refl)
+
+loop-again : tie.Need-loop-again Inv-loop μ-loop
+loop-again c =
+    let turn = c .before .before .before .before in
+    let start = turn .before .before .before .before in
+    let e = cipherOf (now (start .args .w)) in
+    let l = blockOf (turn .before .last .result) in
+    let n = turn .before .before .before-last .result in (
+      search needs,
+      search needs,
+      c .encrypt .ensures
+          ∙ ap e (c .before .xored .ensures ∙ ap₂ xorBlock (turn .loop .inv .2) (c .before .before .input .ensures))
+          ∙ sym (turns-more e (taken (now (start .args .m)) l n) (turn .loop .i)),
+    )
+
+returns : tie.Need-returns Inv-loop μ-loop
+unfolding tagUnder
+returns c =
+    let loop = c .before .loop in
+    let last = c .before .before .last in
+    let n = c .before .before .before .before-last in
+    let start = c .before .before .before .before .before in
+    let e = cipherOf (now (start .args .w)) in
+    let m = now (start .args .m) in
+    let i : loop .i ≡ n .result + 1 = omega arith in
+    loop .inv .2 ∙ ap₂ (λ (l : List ℕ) (i : ℕ). turns e (taken m l (n .result)) i) (last .ensures) i
+    ∙ turns-whole e _ _ m (n .result) (n .ensures)
+
+pub tag-block-spec : {M : Type 1} → statement M
+tag-block-spec =
+    tie.close
+    (tie.spec
+    Inv-loop μ-loop (λ c κs. search needs) (λ c κs. search needs) loop-holds (λ c κs. search needs) (λ c κs. search needs)
+    (λ c. search needs) (λ c κs. search needs) (λ c. search needs) loop-again returns)

@@ -1,0 +1,20 @@
+-- What serves many tags under one key: its expanded key and both subkeys, one after the other.
+use Prim.Native.Nat.{ℕ}
+use mathlib.Core.Path.{_≡_}
+use mathlib.Core.List.{List, _++_}
+use Rattle.cipher.specs.Bytes.{part}
+use Rattle.cipher.specs.Cipher.{cipherOf, encryptOf}
+use Rattle.cipher.specs.KeyExpansion.{keyExpansion}
+use Rattle.cmac.specs.Cmac.{subkey1, subkey2, cmacWith}
+use Rattle.cmac.specs.declared.Context.{Context}
+
+unfoldable pub subkeysOf : List ℕ → List ℕ
+subkeysOf key = subkey1 (encryptOf key) ++ subkey2 (encryptOf key)
+
+pub record ContextOf (key : List ℕ) (c : Context) : Type 0 where
+  pub schedule : c .schedule ≡ keyExpansion key
+  pub subkeys : c .subkeys ≡ subkeysOf key
+
+-- the tag of m with the expanded key w and the subkeys k, whatever they hold
+unfoldable pub tagUnder : List ℕ → List ℕ → List ℕ → List ℕ
+tagUnder w k m = cmacWith (cipherOf w) (part k 0 16) (part k 16 16) m

@@ -1,0 +1,6 @@
+//! An independent version of the papers the round store rests on, for comparison.
+//!
+//! It is written to be read beside them: plain steps, no tables from elsewhere, no speed.
+
+pub mod aes;
+pub mod cmac;
