@@ -55,9 +55,8 @@ fn competitors() -> Result<Competitors, String> {
 
 /// Says what the figures mean.
 fn explain() {
-    println!("nanoseconds, the least of many repetitions; a block is one link of a chain");
-    println!("tags are of 17 and of 73 bytes, with the context of the key already made");
-    println!("block of Nettle and OpenSSL: one call each, OpenSSL's EVP_EncryptUpdate in ECB");
+    println!("nanoseconds for one block of a chain, and for one tag under a context already made");
+    println!("OpenSSL's block: EVP_EncryptUpdate in ECB without padding, one call for each");
     #[cfg(target_arch = "x86_64")]
     if !std::arch::is_x86_feature_detected!("aes") {
         println!("this CPU has no AES-NI: no row uses it, whatever its name says");
@@ -70,20 +69,15 @@ fn run() -> Result<(), String> {
     let mut all = competitors()?;
     let columns = COLUMNS.len();
     let figures = timing::race(all.len() * columns, |work, count| {
-        all[work / columns]
-            .1
-            .measure(COLUMNS[work % columns], count)
+        let (_, subject) = &mut all[work / columns];
+        subject.measure(COLUMNS[work % columns], count)
     });
     let names = all.iter().map(|(name, _)| *name);
     let rows: Vec<Row> = names
         .zip(figures.chunks(columns))
         .map(|(name, figures)| Row { name, figures })
         .collect();
-    let find = |name: &str| {
-        rows.iter()
-            .find(|row| row.name == name)
-            .map(|row| row.figures)
-    };
+    let find = |name| Some(rows.iter().find(|row| row.name == name)?.figures);
     let proved = find(PROVED).expect("the proved code is always there");
     let table = find(TABLE).expect("the table is always there");
     explain();

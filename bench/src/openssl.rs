@@ -18,6 +18,28 @@ struct Parameter {
 /// OSSL_PARAM_UTF8_STRING.
 const TEXT: c_uint = 4;
 
+impl Parameter {
+    /// What ends a list of parameters.
+    const END: Parameter = Parameter {
+        key: null(),
+        data_type: 0,
+        data: null(),
+        data_size: 0,
+        return_size: 0,
+    };
+
+    /// The parameter that names a cipher.
+    fn cipher(name: &'static CStr) -> Self {
+        Parameter {
+            key: c"cipher".as_ptr(),
+            data_type: TEXT,
+            data: name.as_ptr().cast(),
+            data_size: name.count_bytes(),
+            return_size: usize::MAX,
+        }
+    }
+}
+
 type New = unsafe extern "C" fn() -> *mut c_void;
 type EncryptInit =
     unsafe extern "C" fn(*mut c_void, *const c_void, *mut c_void, *const u8, *const u8) -> c_int;
@@ -41,7 +63,7 @@ pub struct OpenSsl {
 }
 
 /// Makes a context of AES-128-ECB without padding.
-unsafe fn make_cipher(library: &Library, key: &[u8; 16]) -> Result<*mut c_void, String> {
+fn make_cipher(library: &Library, key: &[u8; 16]) -> Result<*mut c_void, String> {
     // SAFETY: the types are those of OpenSSL 3's headers.
     unsafe {
         let new: New = library.function(c"EVP_CIPHER_CTX_new")?;
@@ -58,25 +80,9 @@ unsafe fn make_cipher(library: &Library, key: &[u8; 16]) -> Result<*mut c_void, 
 }
 
 /// Makes a context of CMAC with AES-128-CBC.
-unsafe fn make_mac(library: &Library, key: &[u8; 16]) -> Result<*mut c_void, String> {
-    let cipher: &CStr = c"AES-128-CBC";
-    let parameter = |key: *const c_char, data_type, data, data_size| Parameter {
-        key,
-        data_type,
-        data,
-        data_size,
-        return_size: usize::MAX,
-    };
-    let parameters = [
-        parameter(
-            c"cipher".as_ptr(),
-            TEXT,
-            cipher.as_ptr().cast(),
-            cipher.count_bytes(),
-        ),
-        parameter(null(), 0, null(), 0),
-    ];
-    // SAFETY: the types are those of OpenSSL 3's headers, and an empty parameter ends the list.
+fn make_mac(library: &Library, key: &[u8; 16]) -> Result<*mut c_void, String> {
+    let parameters = [Parameter::cipher(c"AES-128-CBC"), Parameter::END];
+    // SAFETY: the types are those of OpenSSL 3's headers, and END ends the list.
     unsafe {
         let fetch: MacFetch = library.function(c"EVP_MAC_fetch")?;
         let new: MacNew = library.function(c"EVP_MAC_CTX_new")?;

@@ -31,14 +31,19 @@ pub fn print_table(proved: &[Figure], rows: &[Row]) {
     }
 }
 
-/// Prints what the proved code does before its work, and which part of its figures that is.
+/// Prints what the proved code does before its work, where that is the largest part of it.
 pub fn print_preparation(proved: &[Figure]) {
-    let shares = proved.iter().map(|figure| figure.share);
+    let largest = proved.iter().max_by(|a, b| a.share.total_cmp(&b.share));
+    let Some(Figure {
+        preparation, share, ..
+    }) = largest
+    else {
+        return;
+    };
     println!(
-        "each repetition of the proved code makes its table and context: {:.1} microseconds, \
-         at most {:.2} % of it",
-        proved[0].preparation / 1e3,
-        100.0 * shares.fold(0.0, f64::max)
+        "a repetition of the proved code first makes table and context: at most {:.2} % ({:.1} us)",
+        100.0 * share,
+        preparation / 1e3
     );
 }
 

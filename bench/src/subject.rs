@@ -57,7 +57,7 @@ pub fn compare(chains: &mut dyn Chains) -> Result<(), String> {
     let tags = [16, 17, 31, 32, 33, 73, 128, ROOM].map(Column::Tag);
     let mut reference = Plain::new(&KEY);
     for column in [Column::Block].into_iter().chain(tags) {
-        for count in [0, 1, 2, 25] {
+        for count in [0, 1, 2, 300, 3_000] {
             let start: [u8; ROOM] = std::array::from_fn(|i| (i * i + 3 * i) as u8);
             let (mut found, mut expected) = (start, start);
             run(chains, column, &mut found, count);

@@ -12,6 +12,9 @@ type State = [u32; 4];
 /// Where in an entry the columns of the rows 0 to 3 begin, in bits.
 const WINDOWS: [u32; 4] = [0, 24, 16, 8];
 
+/// Where four bytes of an entry begin that have s itself in row 0 to 3, in bits.
+const LAST_WINDOWS: [u32; 4] = [8, 0, 0, 24];
+
 /// The table and what is made of one key.
 pub struct Table {
     entries: [u64; 256],
@@ -83,18 +86,11 @@ impl Table {
         made
     }
 
-    /// What the byte of a row of a column adds to the new column.
+    /// Four bytes of the entry of the byte in a row of a column.
     #[inline(always)]
-    fn window(&self, column: u32, row: usize) -> u32 {
+    fn window(&self, column: u32, row: usize, windows: [u32; 4]) -> u32 {
         let byte = (column >> (8 * row)) as u8;
-        (self.entries[byte as usize] >> WINDOWS[row]) as u32
-    }
-
-    /// The substitution of the byte of a row of a column, in its place.
-    #[inline(always)]
-    fn substituted(&self, column: u32, row: usize) -> u32 {
-        let byte = (column >> (8 * row)) as u8;
-        u32::from((self.entries[byte as usize] >> 8) as u8) << (8 * row)
+        (self.entries[byte as usize] >> windows[row]) as u32
     }
 
     /// Encrypts one block.
@@ -103,12 +99,13 @@ impl Table {
         let mut state = xor(block, self.keys[0]);
         for key in &self.keys[1..10] {
             state = std::array::from_fn(|i| {
-                let row = |row: usize| self.window(state[(i + row) % 4], row);
+                let row = |row: usize| self.window(state[(i + row) % 4], row, WINDOWS);
                 key[i] ^ row(0) ^ row(1) ^ row(2) ^ row(3)
             });
         }
         std::array::from_fn(|i| {
-            let row = |row: usize| self.substituted(state[(i + row) % 4], row);
+            let window = |row: usize| self.window(state[(i + row) % 4], row, LAST_WINDOWS);
+            let row = |row: usize| window(row) & (0xff << (8 * row));
             self.keys[10][i] ^ (row(0) | row(1) | row(2) | row(3))
         })
     }
@@ -118,15 +115,15 @@ impl Table {
     fn tag(&self, message: &[u8]) -> State {
         let blocks = message.len().div_ceil(16).max(1);
         let (before, rest) = message.split_at(16 * (blocks - 1));
-        let last = match <&[u8; 16]>::try_from(rest) {
+        let last = store(match <&[u8; 16]>::try_from(rest) {
             Ok(complete) => xor(load(complete), self.first),
             Err(_) => xor(pad(rest), self.second),
-        };
+        });
         let mut state = [0; 4];
-        for block in before.as_chunks().0 {
+        for block in before.as_chunks().0.iter().chain([&last]) {
             state = self.encrypt(xor(state, load(block)));
         }
-        self.encrypt(xor(state, last))
+        state
     }
 }
 

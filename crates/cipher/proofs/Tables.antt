@@ -1,6 +1,6 @@
 -- The tests that the two tables pass, and the rules that follow.
 use mathlib.Core.Path.{_≡_, refl, ap₂}
-use mathlib.Core.Bool.{Bool, true, false}
+use mathlib.Core.Bool.{Bool, true, false, _&&_}
 use mathlib.Core.List.{List, [], _∷_, _++_}
 use Prim.Native.Nat.{ℕ, _+_, _<_}
 use lib.Dec.{T, eqb, eqb→eq}
@@ -10,7 +10,7 @@ use Rattle.cipher.specs.KeyExpansion.{roundConstant}
 use Rattle.cipher.specs.SBox.{sBox}
 use Rattle.cipher.specs.Tables.{IsSBox, mixedColumn, IsRoundTable}
 use Rattle.cipher.specs.Words.{bytes}
-use Rattle.cipher.proofs.Every.{both, both-left, both-right, every, every-at}
+use Rattle.cipher.proofs.Every.{and-left, and-right, every, every-at}
 
 abbrev pub substitutes : ℕ → ℕ → Bool
 substitutes b x = eqb x (sBox b)
@@ -31,7 +31,7 @@ unfoldable pub same : List ℕ → List ℕ → Bool
 same [] [] = true
 same [] (y ∷ ys) = false
 same (x ∷ xs) [] = false
-same (x ∷ xs) (y ∷ ys) = both (eqb x y) (same xs ys)
+same (x ∷ xs) (y ∷ ys) = eqb x y && same xs ys
 
 same-eq : (xs ys : List ℕ) → T (same xs ys) → xs ≡ ys
 unfolding same
@@ -39,7 +39,7 @@ same-eq [] [] t = refl
 same-eq [] (y ∷ ys) t = absurd t
 same-eq (x ∷ xs) [] t = absurd t
 same-eq (x ∷ xs) (y ∷ ys) t =
-    ap₂ _∷_ (eqb→eq x y (both-left (eqb x y) (same xs ys) t)) (same-eq xs ys (both-right (eqb x y) (same xs ys) t))
+    ap₂ _∷_ (eqb→eq x y (and-left (eqb x y) (same xs ys) t)) (same-eq xs ys (and-right (eqb x y) (same xs ys) t))
 
 unfoldable pub mixes : ℕ → ℕ → Bool
 mixes b x = let m = mixedColumn (sBox b) in same (bytes 8 x) (m ++ m)

@@ -2,10 +2,10 @@
 use mathlib.Core.Path.{_≡_, refl, sym, ap, ap₂, _∙_}
 use mathlib.Core.Bool.{Bool, true, false, cond}
 use mathlib.Core.List.{List, [], _∷_, _++_}
-use Prim.Native.Nat.{ℕ}
+use Prim.Native.Nat.{ℕ, _+_}
 use native.Mathlib.Nat.{le-of-eq}
 use lib.Dec.{ltb}
-use lib.ListN.{length, take, drop, replicate}
+use lib.ListN.{length, take, drop, replicate, length-append}
 use lib.Seq.{take-at, drop-at, take-all}
 use Rattle.cipher.specs.Bytes.{at, part, xorBlock}
 use Rattle.cipher.specs.Cipher.{cipherOf, encryptOf}
@@ -47,3 +47,9 @@ tag-of-context key m =
     let second : part (k1 ++ k2) 16 16 ≡ k2 = ap (take 16) (drop-at k1 k2 16 n1) ∙ take-all 16 k2 (le-of-eq (length-double k1)) in
     ap (λ (e : List ℕ → List ℕ). cmacWith e (part (k1 ++ k2) 0 16) (part (k1 ++ k2) 16 16) m) (cipher-of-key key)
     ∙ ap₂ (λ (a b : List ℕ). cmacWith (encryptOf key) a b m) first second
+
+pub length-subkeys : (key : List ℕ) → length (subkeysOf key) ≡ 32
+unfolding subkeysOf subkey2
+length-subkeys key =
+    length-append (subkey1 (encryptOf key)) (double (subkey1 (encryptOf key)))
+    ∙ ap₂ _+_ (length-subkey1 (encryptOf key)) (length-double (subkey1 (encryptOf key)))
