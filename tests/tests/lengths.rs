@@ -80,7 +80,7 @@ fn check(what: &str, wanted: bool, length: usize, call: impl Fn(&mut [u8]) -> u6
 #[test]
 fn sbox() {
     for out in around(256) {
-        check(&format!("sbox {out}"), out == 256, out, tests::sbox);
+        check(&format!("sbox {out}"), out == 256, out, bindings::sbox);
     }
 }
 
@@ -99,13 +99,13 @@ fn key_and_output(name: &str, wanted: usize, call: fn(&[u8], &mut [u8]) -> u64) 
 /// The round keys want 16 and 176.
 #[test]
 fn expand() {
-    key_and_output("expand", 176, tests::expand);
+    key_and_output("expand", 176, bindings::expand);
 }
 
 /// The subkeys want 16 and 32.
 #[test]
 fn subkeys() {
-    key_and_output("subkeys", 32, tests::subkeys);
+    key_and_output("subkeys", 32, bindings::subkeys);
 }
 
 /// A block wants 16, 16 and 16.
@@ -117,7 +117,7 @@ fn encrypt() {
             for out in around(16) {
                 let what = format!("encrypt {key} {block} {out}");
                 check(&what, [key, block, out] == [16; 3], out, |part| {
-                    tests::encrypt(&bytes[..key], &bytes[..block], part)
+                    bindings::encrypt(&bytes[..key], &bytes[..block], part)
                 });
             }
         }
@@ -133,7 +133,7 @@ fn tag() {
             for message in [0, 1, 15, 16, 17, 32, 300] {
                 let what = format!("tag {key} {message} {out}");
                 check(&what, [key, out] == [16; 2], out, |part| {
-                    tests::tag(&bytes[..key], &bytes[..message], part)
+                    bindings::tag(&bytes[..key], &bytes[..message], part)
                 });
             }
         }
@@ -148,7 +148,7 @@ fn encrypt_chain() {
         for block in around(16) {
             for count in [0, 1, 3] {
                 let what = format!("encrypt_chain {key} {block} {count}");
-                let call = |part: &mut [u8]| tests::encrypt_chain(&bytes[..key], part, count);
+                let call = |part: &mut [u8]| bindings::encrypt_chain(&bytes[..key], part, count);
                 match (key, block, count) {
                     (16, 16, 0) => {}
                     (16, 16, _) => works(&what, block, call),
@@ -167,7 +167,7 @@ fn tag_chain() {
         for message in (0..=33).chain([272]) {
             for count in [0, 1, 3] {
                 let what = format!("tag_chain {key} {message} {count}");
-                let call = |part: &mut [u8]| tests::tag_chain(&bytes[..key], part, count);
+                let call = |part: &mut [u8]| bindings::tag_chain(&bytes[..key], part, count);
                 match (key, message, count) {
                     (16, 16.., 0) => {}
                     (16, 16.., _) => works(&what, message, call),
@@ -183,10 +183,10 @@ fn tag_chain() {
 fn empty_chains() {
     for fill in FILLS {
         let mut block = Guarded::new(16, fill);
-        assert_eq!(tests::encrypt_chain(&[1; 16], block.part(), 0), 0);
+        assert_eq!(bindings::encrypt_chain(&[1; 16], block.part(), 0), 0);
         assert!(block.untouched());
         let mut message = Guarded::new(40, fill);
-        assert_eq!(tests::tag_chain(&[1; 16], message.part(), 0), 0);
+        assert_eq!(bindings::tag_chain(&[1; 16], message.part(), 0), 0);
         assert!(message.untouched());
     }
 }
@@ -197,7 +197,7 @@ fn any_alignment() {
     let bytes = Random::new(6).bytes(200);
     let (key, message) = (&bytes[..16], &bytes[16..73]);
     let mut expected = [0; 16];
-    assert_eq!(tests::tag(key, message, &mut expected), 0);
+    assert_eq!(bindings::tag(key, message, &mut expected), 0);
     let mut space = [0; 400];
     for shift in 0..16 {
         let (first, rest) = space.split_at_mut(64);
@@ -207,7 +207,7 @@ fn any_alignment() {
         let moved_message = &mut second[2 * shift + 1..][..message.len()];
         moved_message.copy_from_slice(message);
         let out = &mut third[3 * shift..3 * shift + 16];
-        assert_eq!(tests::tag(moved_key, moved_message, out), 0);
+        assert_eq!(bindings::tag(moved_key, moved_message, out), 0);
         assert_eq!(out, expected, "shift {shift}");
     }
 }

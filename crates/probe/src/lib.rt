@@ -1,122 +1,12 @@
-// The cipher and CMAC for tests and benchmarks in other languages. A slice passes as a pointer and a length. Each call answers 0, or 1
-// where a length is not the one wanted, and then it changes nothing.
-mod work;
-
+// What the static libraries for tests and benchmarks share.
 use cipher::word;
-ghost use mathlib.Core.Bool.{_&&_};
-ghost use mathlib.Core.List.{_++_};
 ghost use mathlib.Core.Path.{_≡_};
-ghost use lib.Dec.{leb, eqb};
 ghost use lib.ListN.{length};
-ghost use Rattle.cipher.specs.Cipher.{encryptOf};
-ghost use Rattle.cipher.specs.KeyExpansion.{keyExpansion};
-ghost use Rattle.cipher.specs.Tables.{IsSBox};
-ghost use Rattle.cmac.specs.Cmac.{cmacOf};
-ghost use Rattle.cmac.specs.Context.{subkeysOf};
-ghost use Rattle.probe.specs.Told.{Told, sized, repeated, retagged};
 
-// The substitution table.
-#[no_mangle]
-pub extern "C" fn probe_sbox(out: &mut [u8]) -> u64
-    ensures { λ r. ⌜ ((length (now (out .entry)) ≡ 256) → (r ≡ 0) × IsSBox (now (out .exit))) × ((length (now (out .entry)) ≡ 256 → ⊥) → (r ≡ 1) × (now (out .exit) ≡ now (out .entry))) ⌝ }
+// A key of 16 bytes.
+pub fn key_of(key: &[u8]) -> [u8; 16]
+    requires { ⌜ length (now key) ≡ 16 ⌝ }
+    ensures { λ r. ⌜ r ≡ now (key .entry) ⌝ }
 {
-    if out.len() != 256 {
-        return 1;
-    }
-    let s = cipher::sbox::table();
-    bytes::copy(&s, out);
-    0
-}
-
-// The expanded key.
-#[no_mangle]
-pub extern "C" fn probe_expand(key: &[u8], out: &mut [u8]) -> u64
-    ensures { λ r. ⌜ Told (sized (now (key .entry)) 16 && sized (now (out .entry)) 176) (keyExpansion (now (key .entry))) (now (out .entry)) (now (out .exit)) r ⌝ }
-{
-    if key.len() != 16 {
-        return 1;
-    }
-    if out.len() != 176 {
-        return 1;
-    }
-    work::expand(key, out);
-    0
-}
-
-// One block under a key.
-#[no_mangle]
-pub extern "C" fn probe_encrypt(key: &[u8], block: &[u8], out: &mut [u8]) -> u64
-    ensures { λ r. ⌜ Told (sized (now (key .entry)) 16 && (sized (now (block .entry)) 16 && sized (now (out .entry)) 16)) (encryptOf (now (key .entry)) (now (block .entry))) (now (out .entry)) (now (out .exit)) r ⌝ }
-{
-    if key.len() != 16 {
-        return 1;
-    }
-    if block.len() != 16 {
-        return 1;
-    }
-    if out.len() != 16 {
-        return 1;
-    }
-    work::encrypt(key, block, out);
-    0
-}
-
-// Both subkeys.
-#[no_mangle]
-pub extern "C" fn probe_subkeys(key: &[u8], out: &mut [u8]) -> u64
-    ensures { λ r. ⌜ Told (sized (now (key .entry)) 16 && sized (now (out .entry)) 32) (subkeysOf (now (key .entry))) (now (out .entry)) (now (out .exit)) r ⌝ }
-{
-    if key.len() != 16 {
-        return 1;
-    }
-    if out.len() != 32 {
-        return 1;
-    }
-    work::subkeys(key, out);
-    0
-}
-
-// The tag of a message.
-#[no_mangle]
-pub extern "C" fn probe_tag(key: &[u8], message: &[u8], out: &mut [u8]) -> u64
-    ensures { λ r. ⌜ Told (sized (now (key .entry)) 16 && sized (now (out .entry)) 16) (cmacOf (now (key .entry)) (now (message .entry))) (now (out .entry)) (now (out .exit)) r ⌝ }
-{
-    if key.len() != 16 {
-        return 1;
-    }
-    if out.len() != 16 {
-        return 1;
-    }
-    work::tag(key, message, out);
-    0
-}
-
-// A block encrypted count times, one after the other.
-#[no_mangle]
-pub extern "C" fn probe_encrypt_chain(key: &[u8], block: &mut [u8], count: u64) -> u64
-    ensures { λ r. ⌜ Told (sized (now (key .entry)) 16 && sized (now (block .entry)) 16) (repeated (encryptOf (now (key .entry))) (now (block .entry)) count) (now (block .entry)) (now (block .exit)) r ⌝ }
-{
-    if key.len() != 16 {
-        return 1;
-    }
-    if block.len() != 16 {
-        return 1;
-    }
-    work::encrypt_chain(key, block, count);
-    0
-}
-
-// Count times, the tag of a message in the place of its first 16 bytes.
-#[no_mangle]
-pub extern "C" fn probe_tag_chain(key: &[u8], message: &mut [u8], count: u64) -> u64
-    ensures { λ r. ⌜ Told (sized (now (key .entry)) 16 && leb 16 (length (now (message .entry)))) (repeated (retagged (now (key .entry))) (now (message .entry)) count) (now (message .entry)) (now (message .exit)) r ⌝ }
-{
-    if key.len() != 16 {
-        return 1;
-    }
-    if message.len() < 16 {
-        return 1;
-    }
-    work::tag_chain(key, message, count);
-    0
+    word::bytes_of(word::block_at(key, 0))
 }

@@ -1,0 +1,42 @@
+// The work behind each exported function, once the lengths are right.
+use cipher::word;
+ghost use mathlib.Core.Path.{_≡_};
+ghost use Prim.Native.Nat.{_≤_};
+ghost use lib.ListN.{length};
+ghost use Rattle.cmac.specs.Cmac.{cmacOf};
+ghost use Rattle.cmac.specs.Context.{subkeysOf};
+ghost use Rattle.probe.specs.Told.{repeated, retagged};
+
+pub fn subkeys(key: &[u8], out: &mut [u8])
+    requires { ⌜ (length (now key) ≡ 16) × (length (now out) ≡ 32) ⌝ }
+    ensures { λ _. ⌜ now (out .exit) ≡ subkeysOf (now (key .entry)) ⌝ }
+{
+    let t = cipher::round_table::table();
+    let c = cmac::context_of(&t, probe::key_of(key));
+    let k = c.subkeys;
+    bytes::copy(&k, out);
+}
+
+pub fn tag(key: &[u8], message: &[u8], out: &mut [u8])
+    requires { ⌜ (length (now key) ≡ 16) × (length (now out) ≡ 16) ⌝ }
+    ensures { λ _. ⌜ now (out .exit) ≡ cmacOf (now (key .entry)) (now (message .entry)) ⌝ }
+{
+    let t = cipher::round_table::table();
+    let c = cmac::context_of(&t, probe::key_of(key));
+    let x = cmac::tag(&t, &c.schedule, &c.subkeys, message);
+    bytes::copy(&x, out);
+}
+
+pub fn tag_chain(key: &[u8], message: &mut [u8], count: u64)
+    requires { ⌜ (length (now key) ≡ 16) × (16 ≤ length (now message)) ⌝ }
+    ensures { λ _. ⌜ now (message .exit) ≡ repeated (retagged (now (key .entry))) (now (message .entry)) count ⌝ }
+{
+    let t = cipher::round_table::table();
+    let c = cmac::context_of(&t, probe::key_of(key));
+    let mut i: u64 = 0;
+    while i < count {
+        i += 1;
+        let x = cmac::tag_block(&t, &c.schedule, &c.subkeys, message);
+        word::put_block(message, 0, x);
+    }
+}
