@@ -1,9 +1,7 @@
-pub mod Bytes
 pub mod Every
 pub mod Tables
 pub mod Inverse
 pub mod Mixing
 pub mod Rounds
-pub mod Stores
 pub mod Schedule
 pub mod Examples

@@ -3,13 +3,13 @@ use mathlib.Core.Path.{_≡_, refl, ap, ap₂, _∙_}
 use mathlib.Core.List.{List, [], _∷_, _++_}
 use Prim.Native.Nat.{ℕ, _/_, _%_, _<_}
 use lib.Bits.{bitXor}
-use Rattle.cipher.specs.Bytes.{at, part}
+use Rattle.words.specs.Bytes.{at, part}
 use Rattle.cipher.specs.KeyExpansion.{xorWord}
 use Rattle.cipher.specs.SBox.{sBox}
 use Rattle.cipher.specs.State.{mixRow, mixColumn}
 use Rattle.cipher.specs.Tables.{IsRoundTable}
-use Rattle.cipher.specs.Words.{bytes}
-use Rattle.cipher.proofs.Bytes.{xors, bytes-xor}
+use Rattle.words.specs.Words.{bytes}
+use Rattle.words.proofs.Bytes.{xors, bytes-xor}
 
 pub xor-words : (v w : ℕ) {l m : List ℕ} → bytes 4 v ≡ l → bytes 4 w ≡ m → bytes 4 (bitXor v w) ≡ xors l m
 xor-words v w p q = bytes-xor 4 v w ∙ ap₂ xors p q

@@ -4,7 +4,7 @@ use mathlib.Core.List.{List}
 use Prim.Native.Nat.{ℕ, _+_}
 use native.Mathlib.Numerals.{add-one}
 use lib.ListN.{length}
-use Rattle.cipher.specs.Bytes.{xorBlock}
+use Rattle.words.specs.Bytes.{xorBlock}
 use Rattle.cipher.specs.KeyExpansion.{keyExpansion}
 use Rattle.cipher.specs.State.{subBytes, shiftRows, mixColumns, addRoundKey}
 use Rattle.cipher.specs.Cipher.{roundKey, rounds, lastRound, cipherOf, encryptOf}

@@ -8,10 +8,10 @@ use borrow.Author.Tests.{eq-eqb, ne-eqb}
 use lib.Dec.{eqb}
 use lib.ListN.{length, take, drop, length-append}
 use lib.Seq.{drop-append-add, sets, sets-eq, length-sets, length-take-le, take-add, take-at, drop-at}
-use Rattle.cipher.specs.Bytes.{part}
+use Rattle.words.specs.Bytes.{part}
 use Rattle.cipher.specs.KeyExpansion.{wordAt, xorWord, subWord, rotWord, roundConstant, rcon, temp, nextWord, firstWords, nextRoundKey}
-use Rattle.cipher.specs.Words.{bytes, stateOf}
-use Rattle.cipher.specs.declared.Columns.{Columns}
+use Rattle.words.specs.Words.{bytes, stateOf}
+use Rattle.words.specs.declared.Columns.{Columns}
 
 -- the words from 4 r on stand in q, after the 16 r bytes of p
 module _ (p q : List ℕ) (r : ℕ) (n : length p ≡ 16 * r) where

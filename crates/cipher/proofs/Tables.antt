@@ -5,11 +5,11 @@ use mathlib.Core.List.{List, [], _∷_, _++_}
 use Prim.Native.Nat.{ℕ, _+_, _<_}
 use lib.Dec.{T, eqb, eqb→eq}
 use lib.ListN.{length}
-use Rattle.cipher.specs.Bytes.{at}
+use Rattle.words.specs.Bytes.{at}
 use Rattle.cipher.specs.KeyExpansion.{roundConstant}
 use Rattle.cipher.specs.SBox.{sBox}
 use Rattle.cipher.specs.Tables.{IsSBox, mixedColumn, IsRoundTable}
-use Rattle.cipher.specs.Words.{bytes}
+use Rattle.words.specs.Words.{bytes}
 use Rattle.cipher.proofs.Every.{and-left, and-right, every, every-at}
 
 abbrev pub substitutes : ℕ → ℕ → Bool

@@ -4,7 +4,7 @@ use mathlib.Core.Bool.{cond}
 use mathlib.Core.List.{List, [], _∷_, _++_}
 use lib.Dec.{eqb}
 use lib.Bits.{bitXor}
-use Rattle.cipher.specs.Bytes.{at, block, part}
+use Rattle.words.specs.Bytes.{at, block, part}
 use Rattle.cipher.specs.Field.{xTimes}
 use Rattle.cipher.specs.SBox.{sBox}
 

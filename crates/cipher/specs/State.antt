@@ -2,7 +2,7 @@
 use Prim.Native.Nat.{ℕ, zero, suc, _+_, _*_, _/_, _%_}
 use mathlib.Core.List.{List, [], _∷_}
 use lib.Bits.{bitXor}
-use Rattle.cipher.specs.Bytes.{at, block}
+use Rattle.words.specs.Bytes.{at, block}
 use Rattle.cipher.specs.Field.{times}
 use Rattle.cipher.specs.SBox.{sBox}
 

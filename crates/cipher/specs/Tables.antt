@@ -2,10 +2,10 @@
 use mathlib.Core.Path.{_≡_}
 use mathlib.Core.List.{List, [], _∷_, _++_}
 use Prim.Native.Nat.{ℕ, _<_}
-use Rattle.cipher.specs.Bytes.{at}
+use Rattle.words.specs.Bytes.{at}
 use Rattle.cipher.specs.Field.{times}
 use Rattle.cipher.specs.SBox.{sBox}
-use Rattle.cipher.specs.Words.{bytes}
+use Rattle.words.specs.Words.{bytes}
 
 -- the substitution of each byte
 unfoldable pub IsSBox : List ℕ → Type 0

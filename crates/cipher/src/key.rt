@@ -1,11 +1,10 @@
 // Key expansion: the ten round keys after the key, a round key at a time.
-use crate::Columns;
-use crate::word;
+use words::Columns;
 ghost use mathlib.Core.Path.{_≡_};
 ghost use Prim.Native.Nat.{_+_, _<_};
 ghost use Rattle.cipher.specs.KeyExpansion.{subWord, rotWord, roundConstant, nextRoundKey, keyExpansion};
 ghost use Rattle.cipher.specs.Tables.{IsSBox};
-ghost use Rattle.cipher.specs.Words.{bytes, stateOf};
+ghost use Rattle.words.specs.Words.{bytes, stateOf};
 
 // The expanded key.
 pub fn expand(s: &[u8; 256], key: [u8; 16]) -> [u8; 176]
@@ -13,13 +12,13 @@ pub fn expand(s: &[u8; 256], key: [u8; 16]) -> [u8; 176]
     ensures { λ r. ⌜ r ≡ keyExpansion key ⌝ }
 {
     let mut w = [0u8; 176];
-    let mut k = word::columns_at(&key, 0);
-    word::put_block(&mut w, 0, word::joined(k));
+    let mut k = words::columns_at(&key, 0);
+    words::put_block(&mut w, 0, words::joined(k));
     let mut i: usize = 0;
     while i < 10 {
         k = next(s, k, constant(i));
         i += 1;
-        word::put_block(&mut w, 16 * i, word::joined(k));
+        words::put_block(&mut w, 16 * i, words::joined(k));
     }
     w
 }
@@ -40,11 +39,11 @@ fn turned(s: &[u8; 256], w: u32) -> u32
     requires { ⌜ IsSBox (now s) ⌝ }
     ensures { λ r. ⌜ bytes 4 r ≡ subWord (rotWord (bytes 4 w)) ⌝ }
 {
-    word::word_of(
-        s[word::byte1(w)],
-        s[word::byte2(w)],
-        s[word::byte3(w)],
-        s[word::byte0(w)],
+    words::word_of(
+        s[words::byte1(w)],
+        s[words::byte2(w)],
+        s[words::byte3(w)],
+        s[words::byte0(w)],
     )
 }
 

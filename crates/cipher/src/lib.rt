@@ -4,37 +4,23 @@ pub mod key;
 mod round;
 pub mod round_table;
 pub mod sbox;
-pub mod word;
 
+use words::Block;
 ghost use mathlib.Core.Path.{_≡_};
 ghost use Rattle.cipher.specs.Cipher.{cipherOf};
 ghost use Rattle.cipher.specs.Tables.{IsRoundTable};
-ghost use Rattle.cipher.specs.Words.{blockOf};
-
-// A block: its first eight bytes and its last eight, each in a word, the first byte lowest.
-pub struct Block {
-    pub head: u64,
-    pub tail: u64,
-}
-
-// A state, a column in each word, the byte of row 0 lowest.
-pub struct Columns {
-    pub c0: u32,
-    pub c1: u32,
-    pub c2: u32,
-    pub c3: u32,
-}
+ghost use Rattle.words.specs.Words.{blockOf};
 
 // One block under the expanded key w.
 pub fn encrypt(t: &[u64; 256], w: &[u8; 176], input: Block) -> Block
     requires { ⌜ IsRoundTable (now t) ⌝ }
     ensures { λ r. ⌜ blockOf r ≡ cipherOf (now (w .entry)) (blockOf input) ⌝ }
 {
-    let mut s = word::split(word::xored(input, word::block_at(w, 0)));
+    let mut s = words::split(words::xored(input, words::block_at(w, 0)));
     let mut i: usize = 0;
     while i < 9 {
         i += 1;
-        s = round::whole(t, word::columns_at(w, 16 * i), s);
+        s = round::whole(t, words::columns_at(w, 16 * i), s);
     }
-    word::joined(round::last(t, word::columns_at(w, 160), s))
+    words::joined(round::last(t, words::columns_at(w, 160), s))
 }

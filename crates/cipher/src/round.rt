@@ -1,15 +1,14 @@
 // A round of AES through the table: for each column four look-ups, one for each row that it takes after the rows have shifted.
-use crate::Columns;
-use crate::word;
+use words::Columns;
 ghost use mathlib.Core.Path.{_≡_};
 ghost use mathlib.Core.List.{[], _∷_};
 ghost use Prim.Native.Nat.{_<_};
-ghost use Rattle.cipher.specs.Bytes.{at, part};
+ghost use Rattle.words.specs.Bytes.{at, part};
 ghost use Rattle.cipher.specs.KeyExpansion.{xorWord};
 ghost use Rattle.cipher.specs.SBox.{sBox};
 ghost use Rattle.cipher.specs.State.{subBytes, shiftRows, mixColumn, mixColumns, addRoundKey};
 ghost use Rattle.cipher.specs.Tables.{IsRoundTable};
-ghost use Rattle.cipher.specs.Words.{bytes, stateOf};
+ghost use Rattle.words.specs.Words.{bytes, stateOf};
 
 // The column that the byte of an entry makes in row 0, 1, 2 or 3: the entry, which has it twice, from byte 0, 3, 2 or 1.
 fn row0(e: u64) -> u32
@@ -50,10 +49,10 @@ fn mixed(t: &[u64; 256], a: u32, b: u32, c: u32, d: u32, k: u32) -> u32
     requires { ⌜ IsRoundTable (now t) ⌝ }
     ensures { λ r. ⌜ bytes 4 r ≡ xorWord (mixColumn (sBox (at (bytes 4 a) 0)) (sBox (at (bytes 4 b) 1)) (sBox (at (bytes 4 c) 2)) (sBox (at (bytes 4 d) 3))) (bytes 4 k) ⌝ }
 {
-    row0(t[word::byte0(a)])
-        ^ row1(t[word::byte1(b)])
-        ^ row2(t[word::byte2(c)])
-        ^ row3(t[word::byte3(d)])
+    row0(t[words::byte0(a)])
+        ^ row1(t[words::byte1(b)])
+        ^ row2(t[words::byte2(c)])
+        ^ row3(t[words::byte3(d)])
         ^ k
 }
 
@@ -62,11 +61,11 @@ fn unmixed(t: &[u64; 256], a: u32, b: u32, c: u32, d: u32, k: u32) -> u32
     requires { ⌜ IsRoundTable (now t) ⌝ }
     ensures { λ r. ⌜ bytes 4 r ≡ xorWord (sBox (at (bytes 4 a) 0) ∷ sBox (at (bytes 4 b) 1) ∷ sBox (at (bytes 4 c) 2) ∷ sBox (at (bytes 4 d) 3) ∷ []) (bytes 4 k) ⌝ }
 {
-    word::word_of(
-        substituted(t, word::byte0(a)),
-        substituted(t, word::byte1(b)),
-        substituted(t, word::byte2(c)),
-        substituted(t, word::byte3(d)),
+    words::word_of(
+        substituted(t, words::byte0(a)),
+        substituted(t, words::byte1(b)),
+        substituted(t, words::byte2(c)),
+        substituted(t, words::byte3(d)),
     )
         ^ k
 }

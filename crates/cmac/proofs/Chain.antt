@@ -10,7 +10,7 @@ use borrow.Author.Tests.{lt-ltb, le-ltb}
 use lib.Bits.{bitXor, xor-comm}
 use lib.Dec.{ltb}
 use lib.ListN.{length}
-use Rattle.cipher.specs.Bytes.{at, block, xorBlock}
+use Rattle.words.specs.Bytes.{at, block, xorBlock}
 use Rattle.cmac.specs.Cmac.{blocks, messageBlock, lastBlock, zeros, chain, cmacWith}
 
 xor-block-comm : (p q : List ℕ) → xorBlock p q ≡ xorBlock q p

@@ -7,7 +7,7 @@ use native.Mathlib.Omega.{arith}
 use borrow.Author.Tests.{eq-eqb, ne-eqb}
 use lib.Dec.{eqb·suc-zero}
 use lib.ListN.{length}
-use Rattle.cipher.specs.Bytes.{xorBlock}
+use Rattle.words.specs.Bytes.{xorBlock}
 use Rattle.cmac.specs.Cmac.{blocks, complete, messageBlock, padding, lastBlock}
 
 -- n blocks stand before the last one of a message of that length

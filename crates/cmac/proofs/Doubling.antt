@@ -11,7 +11,7 @@ use lib.Bits.{bitXor, xor-zero-r}
 use lib.Dec.{ltb}
 use lib.ListN.{length, take, set, length-set, List·getD-eq-default}
 use lib.Seq.{take-all, take-suc-set}
-use Rattle.cipher.specs.Bytes.{at, block, xorBlock}
+use Rattle.words.specs.Bytes.{at, block, xorBlock}
 use Rattle.cmac.specs.Cmac.{shifted, rb, double}
 use Rattle.cmac.proofs.Fill.{below-or-not, tab, Filled}
 

@@ -2,7 +2,7 @@
 use mathlib.Core.Path.{_≡_, refl}
 use mathlib.Core.List.{_∷_, [], _++_}
 use lib.ListN.{replicate}
-use Rattle.cipher.specs.Bytes.{xorBlock}
+use Rattle.words.specs.Bytes.{xorBlock}
 use Rattle.cmac.specs.Cmac.{double}
 
 pub doubling-row : double (0x80 ∷ replicate 15 0) ≡ replicate 15 0 ++ (0x87 ∷ [])

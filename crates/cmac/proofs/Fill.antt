@@ -9,7 +9,7 @@ use native.Mathlib.Numerals.{add-one}
 use native.Mathlib.Omega.{arith}
 use lib.ListN.{length, take, set, length-append, length-set, List·getD-append}
 use lib.Seq.{getD-at, take-all, take-suc-set}
-use Rattle.cipher.specs.Bytes.{at}
+use Rattle.words.specs.Bytes.{at}
 
 -- an index is inside or not
 pub below-or-not : (i n : ℕ) → (i < n) ⊎ (n ≤ i)

@@ -7,7 +7,7 @@ use native.Mathlib.Nat.{le-of-eq}
 use lib.Dec.{ltb}
 use lib.ListN.{length, take, drop, replicate, length-append}
 use lib.Seq.{take-at, drop-at, take-all}
-use Rattle.cipher.specs.Bytes.{at, part, xorBlock}
+use Rattle.words.specs.Bytes.{at, part, xorBlock}
 use Rattle.cipher.specs.Cipher.{cipherOf, encryptOf}
 use Rattle.cipher.specs.KeyExpansion.{keyExpansion}
 use Rattle.cipher.proofs.Rounds.{cipher-of-key, length-encrypt}

@@ -7,7 +7,7 @@ use native.Mathlib.Nat.{add-assoc, add-zero, eq-or-lt-of-le}
 use native.Mathlib.Omega.{arith}
 use lib.ListN.{length, take, drop, replicate, length-append, length-replicate, length-take, length-drop, getD-replicate, List·getD-append, List·getD-eq-default}
 use lib.Seq.{ext-getD, getD-at, getD-append-seam, getD-append-add, getD-take, getD-drop}
-use Rattle.cipher.specs.Bytes.{at, block, part}
+use Rattle.words.specs.Bytes.{at, block, part}
 use Rattle.cmac.specs.Cmac.{padding}
 use Rattle.cmac.specs.Padded.{paddedByte}
 use Rattle.cmac.proofs.Fill.{below-or-not, tab, at-tab}

@@ -4,7 +4,7 @@ use mathlib.Core.Bool.{Bool, true, false, cond}
 use mathlib.Core.List.{List, [], _∷_, _++_}
 use lib.Dec.{eqb, ltb}
 use lib.ListN.{length, replicate}
-use Rattle.cipher.specs.Bytes.{at, block, part, xorBlock}
+use Rattle.words.specs.Bytes.{at, block, part, xorBlock}
 use Rattle.cipher.specs.Cipher.{encryptOf}
 
 -- const_Zero

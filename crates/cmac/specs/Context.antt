@@ -2,7 +2,7 @@
 use Prim.Native.Nat.{ℕ}
 use mathlib.Core.Path.{_≡_}
 use mathlib.Core.List.{List, _++_}
-use Rattle.cipher.specs.Bytes.{part}
+use Rattle.words.specs.Bytes.{part}
 use Rattle.cipher.specs.Cipher.{cipherOf, encryptOf}
 use Rattle.cipher.specs.KeyExpansion.{keyExpansion}
 use Rattle.cmac.specs.Cmac.{subkey1, subkey2, cmacWith}

@@ -3,11 +3,10 @@
 mod message;
 mod subkey;
 
-use cipher::Block;
-use cipher::word;
+use words::Block;
 ghost use mathlib.Core.Path.{_≡_};
 ghost use Rattle.cipher.specs.Tables.{IsRoundTable};
-ghost use Rattle.cipher.specs.Words.{blockOf};
+ghost use Rattle.words.specs.Words.{blockOf};
 ghost use Rattle.cmac.specs.Context.{ContextOf, tagUnder};
 
 // The expanded key, and both subkeys one after the other.
@@ -35,7 +34,7 @@ pub fn tag<'a>(t: &[u64; 256], w: &'a [u8; 176], k: &'a [u8; 32], m: &[u8]) -> [
     requires { ⌜ IsRoundTable (now t) ⌝ }
     ensures { λ r. ⌜ r ≡ tagUnder (now (w .entry)) (now (k .entry)) (now (m .entry)) ⌝ }
 {
-    word::bytes_of(tag_block(t, w, k, m))
+    words::bytes_of(tag_block(t, w, k, m))
 }
 
 // The tag of a message, as a block. One loop takes every block, the last one with its subkey, so that the cipher has one call and the
@@ -49,7 +48,7 @@ pub fn tag_block<'a>(t: &[u64; 256], w: &'a [u8; 176], k: &'a [u8; 32], m: &[u8]
     let mut x = Block { head: 0, tail: 0 };
     let mut i: usize = 0;
     while i <= n {
-        let y = word::xored(x, message::input(m, last, n, i));
+        let y = words::xored(x, message::input(m, last, n, i));
         i += 1;
         x = cipher::encrypt(t, w, y);
     }

@@ -1,14 +1,13 @@
 // The blocks of a message, the last one padded where it is short and joined with its subkey.
-use cipher::Block;
-use cipher::word;
+use words::Block;
 ghost use mathlib.Core.Bool.{cond};
 ghost use mathlib.Core.List.{[], _∷_};
 ghost use mathlib.Core.Path.{_≡_};
 ghost use Prim.Native.Nat.{_+_, _-_, _*_, _≤_, _<_};
 ghost use lib.Dec.{ltb};
 ghost use lib.ListN.{length};
-ghost use Rattle.cipher.specs.Bytes.{part};
-ghost use Rattle.cipher.specs.Words.{bytes, blockOf};
+ghost use Rattle.words.specs.Bytes.{part};
+ghost use Rattle.words.specs.Words.{bytes, blockOf};
 ghost use Rattle.cmac.specs.Cmac.{blocks, messageBlock, padding, lastBlock};
 ghost use Rattle.cmac.specs.Padded.{paddedByte};
 
@@ -26,7 +25,7 @@ pub fn input(m: &[u8], last: Block, n: usize, i: usize) -> Block
     ensures { λ r. ⌜ blockOf r ≡ cond (ltb i n) (messageBlock (now (m .entry)) i) (blockOf last) ⌝ }
 {
     if i < n {
-        return word::block_at(m, 16 * i);
+        return words::block_at(m, 16 * i);
     }
     last
 }
@@ -38,9 +37,9 @@ pub fn last(k: &[u8; 32], m: &[u8], n: usize) -> Block
 {
     let o = 16 * n;
     if o + 16 == m.len() {
-        return word::xored(word::block_at(m, o), word::block_at(k, 0));
+        return words::xored(words::block_at(m, o), words::block_at(k, 0));
     }
-    word::xored(padded_block(m, o), word::block_at(k, 16))
+    words::xored(padded_block(m, o), words::block_at(k, 16))
 }
 
 // The short block of m from o, padded.
@@ -49,8 +48,8 @@ fn padded_block(m: &[u8], o: usize) -> Block
     ensures { λ r. ⌜ blockOf r ≡ padding (part (now (m .entry)) o 16) ⌝ }
 {
     Block {
-        head: word::double_word(padded_word(m, o), padded_word(m, o + 4)),
-        tail: word::double_word(padded_word(m, o + 8), padded_word(m, o + 12)),
+        head: words::double_word(padded_word(m, o), padded_word(m, o + 4)),
+        tail: words::double_word(padded_word(m, o + 8), padded_word(m, o + 12)),
     }
 }
 
@@ -64,9 +63,9 @@ fn padded_word(m: &[u8], o: usize) -> u32
         return 0;
     }
     if 4 <= n - o {
-        return word::word_at(m, o);
+        return words::word_at(m, o);
     }
-    word::word_of(
+    words::word_of(
         padded_byte(m, o),
         padded_byte(m, o + 1),
         padded_byte(m, o + 2),

@@ -1,6 +1,5 @@
 // The subkeys: the cipher of the zero block, doubled once and twice.
-use cipher::Block;
-use cipher::word;
+use words::Block;
 ghost use mathlib.Core.Path.{_≡_};
 ghost use mathlib.Core.List.{_++_};
 ghost use mathlib.Core.Bool.{cond};
@@ -8,7 +7,7 @@ ghost use Prim.Native.Nat.{_+_, _*_, _/_, _%_};
 ghost use lib.Dec.{ltb};
 ghost use Rattle.cipher.specs.Cipher.{cipherOf};
 ghost use Rattle.cipher.specs.Tables.{IsRoundTable};
-ghost use Rattle.cipher.specs.Words.{blockOf};
+ghost use Rattle.words.specs.Words.{blockOf};
 ghost use Rattle.cmac.specs.Cmac.{double, subkey1, subkey2};
 
 // Both subkeys, one after the other. While they are not known zeros stand for them: the tag of the zero block is then its cipher.
@@ -20,8 +19,8 @@ pub fn both(t: &[u64; 256], w: &[u8; 176]) -> [u8; 32]
     let zero = [0u8; 16];
     let k1 = doubled(crate::tag_block(t, w, &none, &zero));
     let mut k = [0u8; 32];
-    word::put_block(&mut k, 0, k1);
-    word::put_block(&mut k, 16, doubled(k1));
+    words::put_block(&mut k, 0, k1);
+    words::put_block(&mut k, 16, doubled(k1));
     k
 }
 
@@ -29,7 +28,7 @@ pub fn both(t: &[u64; 256], w: &[u8; 176]) -> [u8; 32]
 fn doubled(b: Block) -> Block
     ensures { λ r. ⌜ blockOf r ≡ double (blockOf b) ⌝ }
 {
-    let l = word::bytes_of(b);
+    let l = words::bytes_of(b);
     let mut r = [0u8; 16];
     let mut i: usize = 0;
     while i < 15 {
@@ -37,7 +36,7 @@ fn doubled(b: Block) -> Block
         i += 1;
     }
     r[15] = shifted(l[15], 0) ^ carry(l[0]);
-    word::block_at(&r, 0)
+    words::block_at(&r, 0)
 }
 
 // A byte shifted left by one bit, with the highest bit of the next one.

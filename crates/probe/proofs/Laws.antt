@@ -8,7 +8,7 @@ use native.Mathlib.Numerals.{add-one}
 use native.Mathlib.Omega.{arith}
 use lib.ListN.{length, take, drop, length-append, length-drop, drop-of-length-le}
 use lib.Seq.{sets, sets-eq, take-length, take-all}
-use Rattle.cipher.specs.Bytes.{part}
+use Rattle.words.specs.Bytes.{part}
 use Rattle.cmac.specs.Cmac.{cmacOf}
 use Rattle.cmac.proofs.Laws.{length-cmac}
 use Rattle.probe.specs.Told.{Told, repeated, retagged}

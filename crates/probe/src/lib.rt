@@ -1,5 +1,4 @@
 // What the static libraries for tests and benchmarks share.
-use cipher::word;
 ghost use mathlib.Core.Path.{_≡_};
 ghost use lib.ListN.{length};
 
@@ -8,5 +7,5 @@ pub fn key_of(key: &[u8]) -> [u8; 16]
     requires { ⌜ length (now key) ≡ 16 ⌝ }
     ensures { λ r. ⌜ r ≡ now (key .entry) ⌝ }
 {
-    word::bytes_of(word::block_at(key, 0))
+    words::bytes_of(words::block_at(key, 0))
 }

@@ -1,5 +1,4 @@
 // The work behind each exported function, once the lengths are right.
-use cipher::word;
 ghost use mathlib.Core.Path.{_≡_};
 ghost use lib.ListN.{length};
 ghost use Rattle.cipher.specs.Cipher.{encryptOf};
@@ -30,11 +29,11 @@ pub fn encrypt_chain(key: &[u8], block: &mut [u8], count: u64)
     let s = cipher::sbox::table();
     let w = cipher::key::expand(&s, probe::key_of(key));
     let t = cipher::round_table::table();
-    let mut x = word::block_at(block, 0);
+    let mut x = words::block_at(block, 0);
     let mut i: u64 = 0;
     while i < count {
         i += 1;
         x = cipher::encrypt(&t, &w, x);
     }
-    word::put_block(block, 0, x);
+    words::put_block(block, 0, x);
 }

@@ -1,5 +1,4 @@
 // The work behind each exported function, once the lengths are right.
-use cipher::word;
 ghost use mathlib.Core.Path.{_≡_};
 ghost use Prim.Native.Nat.{_≤_};
 ghost use lib.ListN.{length};
@@ -37,6 +36,6 @@ pub fn tag_chain(key: &[u8], message: &mut [u8], count: u64)
     while i < count {
         i += 1;
         let x = cmac::tag_block(&t, &c.schedule, &c.subkeys, message);
-        word::put_block(message, 0, x);
+        words::put_block(message, 0, x);
     }
 }

@@ -178,8 +178,8 @@ fn encrypted(label: &[u8], key: [u8; 16], input: &[u8])
     let s = cipher::sbox::table();
     let w = cipher::key::expand(&s, key);
     let t = cipher::round_table::table();
-    let c = cipher::encrypt(&t, &w, cipher::word::block_at(input, 0));
-    line(label, cipher::word::bytes_of(c));
+    let c = cipher::encrypt(&t, &w, words::block_at(input, 0));
+    line(label, words::bytes_of(c));
 }
 
 // Prints both subkeys.
@@ -188,11 +188,11 @@ fn subkeys() {
     let c = cmac::context_of(&t, KEY);
     line(
         b"RFC 4493 K1           ",
-        cipher::word::bytes_of(cipher::word::block_at(&c.subkeys, 0)),
+        words::bytes_of(words::block_at(&c.subkeys, 0)),
     );
     line(
         b"RFC 4493 K2           ",
-        cipher::word::bytes_of(cipher::word::block_at(&c.subkeys, 16)),
+        words::bytes_of(words::block_at(&c.subkeys, 16)),
     );
 }
 

@@ -1,3 +1,4 @@
+-- After i turns of the loop the state is the one after i rounds.
 use Prim.Native.Nat.{ℕ, _≤_, _-_}
 use mathlib.Core.Path.{_≡_, refl, ap, ap₂, sym, _∙_}
 use mathlib.Core.List.{List}
@@ -5,7 +6,7 @@ use denote.Ref.{now}
 use native.Mathlib.Omega.{arith}
 use Rattle.cipher.specs.State.{subBytes, shiftRows, mixColumns, addRoundKey}
 use Rattle.cipher.specs.Cipher.{roundKey, rounds, lastRound, cipherOf}
-use Rattle.cipher.specs.Words.{stateOf}
+use Rattle.words.specs.Words.{stateOf}
 use Rattle.cipher.proofs.Rounds.{rounds-more, round-key-added}
 use borrow.Author.Needs.{needs}
 use Rattle.cipher.proofs.encrypt.Statement.{statement}

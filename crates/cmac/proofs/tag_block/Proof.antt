@@ -1,12 +1,13 @@
+-- After i turns x is the state of the chain that takes block after block and, at turn n, the last block with its subkey.
 use Prim.Native.Nat.{ℕ, _+_, _-_, _*_, _≤_}
 use mathlib.Core.Path.{_≡_, refl, sym, ap, ap₂, _∙_}
 use mathlib.Core.List.{List, []}
 use denote.Ref.{now}
 use native.Mathlib.Omega.{arith}
 use lib.ListN.{length}
-use Rattle.cipher.specs.Bytes.{xorBlock}
+use Rattle.words.specs.Bytes.{xorBlock}
 use Rattle.cipher.specs.Cipher.{cipherOf}
-use Rattle.cipher.specs.Words.{blockOf}
+use Rattle.words.specs.Words.{blockOf}
 use Rattle.cmac.specs.Context.{tagUnder}
 use Rattle.cmac.proofs.Chain.{turns, turns-more, taken, turns-whole}
 use Rattle.cmac.proofs.Count.{last-counted}

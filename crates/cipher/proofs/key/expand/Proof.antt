@@ -1,3 +1,4 @@
+-- After i turns the first 16 i + 16 bytes are the first 4 i + 4 words of the schedule, and k is the last round key among them.
 use Prim.Native.Nat.{ℕ, _+_, _*_, _≤_, _-_}
 use mathlib.Core.Path.{_≡_, ap, ap₂, sym, _∙_}
 use mathlib.Core.List.{List}
@@ -6,7 +7,7 @@ use native.Mathlib.Omega.{arith}
 use lib.ListN.{length, take, replicate}
 use lib.Seq.{sets, take-all}
 use Rattle.cipher.specs.KeyExpansion.{firstWords, nextRoundKey, keyExpansion}
-use Rattle.cipher.specs.Words.{stateOf}
+use Rattle.words.specs.Words.{stateOf}
 use Rattle.cipher.proofs.Schedule.{Filled, filled-more}
 use borrow.Author.Needs.{needs}
 use Rattle.cipher.proofs.key.expand.Statement.{statement}

@@ -1,7 +1,7 @@
 use mathlib.Core.Path.{refl}
 use lib.Bits.{bitXor}
 use Rattle.cipher.specs.KeyExpansion.{nextRoundKey, xorWord, subWord, rotWord}
-use Rattle.cipher.proofs.Bytes.{four-columns, bytes-of-byte}
+use Rattle.words.proofs.Bytes.{four-columns, bytes-of-byte}
 use Rattle.cipher.proofs.Mixing.{xor-words}
 use borrow.Author.Needs.{needs}
 use Rattle.cipher.proofs.key.next.Statement.{statement}

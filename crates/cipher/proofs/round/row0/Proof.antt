@@ -1,4 +1,4 @@
-use Rattle.cipher.proofs.Bytes.{bytes-mod}
+use Rattle.words.proofs.Bytes.{bytes-mod}
 use borrow.Author.Needs.{needs}
 use Rattle.cipher.proofs.round.row0.Statement.{statement}
 use Rattle.cipher.proofs.round.row0.Tie as tie

@@ -1,8 +1,8 @@
 use mathlib.Core.Path.{_≡_, ap, _∙_}
 use Prim.Native.Nat.{_/_}
 use native.Mathlib.Omega.{arith}
-use Rattle.cipher.specs.Words.{bytes}
-use Rattle.cipher.proofs.Bytes.{bytes-mod}
+use Rattle.words.specs.Words.{bytes}
+use Rattle.words.proofs.Bytes.{bytes-mod}
 use borrow.Author.Needs.{needs}
 use Rattle.cipher.proofs.round.row1.Statement.{statement}
 use Rattle.cipher.proofs.round.row1.Tie as tie

@@ -1,5 +1,5 @@
 use Prim.Native.Nat.{_/_}
-use Rattle.cipher.proofs.Bytes.{bytes-mod}
+use Rattle.words.proofs.Bytes.{bytes-mod}
 use borrow.Author.Needs.{needs}
 use Rattle.cipher.proofs.round.row3.Statement.{statement}
 use Rattle.cipher.proofs.round.row3.Tie as tie

@@ -1,6 +1,6 @@
 use Rattle.cipher.specs.KeyExpansion.{xorWord}
 use Rattle.cipher.specs.State.{subBytes, shiftRows, mixColumns, addRoundKey}
-use Rattle.cipher.proofs.Bytes.{four-columns}
+use Rattle.words.proofs.Bytes.{four-columns}
 use borrow.Author.Needs.{needs}
 use Rattle.cipher.proofs.round.whole.Statement.{statement}
 use Rattle.cipher.proofs.round.whole.Tie as tie

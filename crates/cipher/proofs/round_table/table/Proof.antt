@@ -1,3 +1,4 @@
+-- The rule of every entry, from one test that is computed over the whole table.
 use mathlib.Core.Path.{refl}
 use Rattle.cipher.specs.Field.{xTimes, timesLow, times, inverse}
 use Rattle.cipher.specs.SBox.{affine, sBox}

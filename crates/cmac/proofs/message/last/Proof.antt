@@ -3,7 +3,7 @@ use mathlib.Core.List.{[]}
 use denote.Ref.{now}
 use native.Mathlib.Omega.{arith}
 use lib.ListN.{length}
-use Rattle.cipher.specs.Bytes.{xorBlock}
+use Rattle.words.specs.Bytes.{xorBlock}
 use Rattle.cmac.proofs.Count.{Counted, last-counted, last-full, last-short}
 use borrow.Author.Needs.{needs}
 use Rattle.cmac.proofs.message.last.Statement.{statement}

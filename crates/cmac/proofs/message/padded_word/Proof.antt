@@ -1,7 +1,7 @@
 use mathlib.Core.Path.{sym, _∙_}
 use denote.Ref.{now}
 use native.Mathlib.Omega.{arith}
-use Rattle.cipher.proofs.Bytes.{part-four}
+use Rattle.words.proofs.Bytes.{part-four}
 use Prim.Native.Nat.{_+_}
 use Rattle.cmac.proofs.Padding.{padded-inside, padded-past}
 use borrow.Author.Needs.{needs}

@@ -4,7 +4,7 @@ use Prim.Native.Nat.{ℕ}
 use denote.Ref.{now}
 use lib.Seq.{sets}
 use Rattle.cipher.specs.Cipher.{cipherOf}
-use Rattle.cipher.specs.Words.{blockOf}
+use Rattle.words.specs.Words.{blockOf}
 use Rattle.cmac.specs.Cmac.{double, subkey1, subkey2}
 use Rattle.cmac.proofs.Laws.{tag-of-zeros}
 use borrow.Author.Needs.{needs}

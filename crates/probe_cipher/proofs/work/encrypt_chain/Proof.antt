@@ -1,3 +1,4 @@
+-- After i turns x is the block encrypted i times.
 use Prim.Native.Nat.{ℕ, _-_, _≤_}
 use mathlib.Core.Path.{_≡_, refl, sym, ap, ap₂, _∙_}
 use mathlib.Core.List.{List}
@@ -5,7 +6,7 @@ use denote.Ref.{now}
 use native.Mathlib.Omega.{arith}
 use Rattle.cipher.specs.Cipher.{cipherOf}
 use Rattle.cipher.specs.KeyExpansion.{keyExpansion}
-use Rattle.cipher.specs.Words.{blockOf}
+use Rattle.words.specs.Words.{blockOf}
 use Rattle.cipher.proofs.Rounds.{cipher-of-key}
 use Rattle.probe.specs.Told.{repeated}
 use Rattle.probe.proofs.Laws.{part-all, stored-all, repeated-more}

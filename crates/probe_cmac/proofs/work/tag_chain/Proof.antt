@@ -1,3 +1,4 @@
+-- After i turns the message has its tag in front i times over.
 use Prim.Native.Nat.{ℕ, _-_, _≤_}
 use mathlib.Core.Path.{_≡_, refl, sym, ap, ap₂, _∙_}
 use mathlib.Core.List.{List, _++_}
@@ -5,7 +6,7 @@ use denote.Ref.{now}
 use native.Mathlib.Omega.{arith}
 use lib.ListN.{length, drop}
 use Rattle.cipher.specs.KeyExpansion.{keyExpansion}
-use Rattle.cipher.specs.Words.{blockOf}
+use Rattle.words.specs.Words.{blockOf}
 use Rattle.cmac.specs.Cmac.{cmacOf}
 use Rattle.cmac.specs.Context.{subkeysOf, tagUnder}
 use Rattle.cmac.proofs.Laws.{tag-of-context}

@@ -1,0 +1,32 @@
+# The round store. `make check` is the whole test; `make vectors` runs the proved code on the published vectors.
+CARGO = cargo --offline
+ARCHIVES = probe_cipher probe_cmac
+
+.PHONY: help vectors archives test check bench clean
+
+help:
+	@echo 'make vectors   prove cipher and CMAC, and print the published vectors as the proved code computes them'
+	@echo 'make check     every test, then the gate: every proof, must-fail edit and program'
+	@echo 'make test      the tests alone'
+	@echo 'make bench     the speed of the proved code against other implementations'
+	@echo 'make clean     remove what was built'
+
+vectors:
+	rt check vectors
+	@cat target/log/vectors.stdout
+
+# The proved code for Rust and C to link: rt proves what goes into an archive.
+archives:
+	for name in $(ARCHIVES); do rt staticlib $$name || exit 1; done
+
+test: archives
+	$(CARGO) test
+
+check: test
+	rt ci
+
+bench: archives
+	$(CARGO) run --release --quiet -p bench
+
+clean:
+	rm -rf target

@@ -1,0 +1,3 @@
+-- Byte strings, and how machine words hold them.
+pub mod Bytes
+pub mod Words
