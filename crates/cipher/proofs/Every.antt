@@ -8,11 +8,11 @@ use native.Mathlib.Omega.{arith}
 use lib.Dec.{T}
 use lib.ListN.{length, getD}
 
-pub and-left : (p q : Bool) → T (p && q) → T p
+and-left : (p q : Bool) → T (p && q) → T p
 and-left true q t = tt
 and-left false q t = t
 
-pub and-right : (p q : Bool) → T (p && q) → T q
+and-right : (p q : Bool) → T (p && q) → T q
 and-right true q t = t
 and-right false q t = absurd t
 

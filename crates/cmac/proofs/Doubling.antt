@@ -13,7 +13,8 @@ use lib.ListN.{length, take, set, length-set, List·getD-eq-default}
 use lib.Seq.{take-all, take-suc-set}
 use Rattle.words.specs.Bytes.{at, block, xorBlock}
 use Rattle.cmac.specs.Cmac.{shifted, rb, double}
-use Rattle.cmac.proofs.Fill.{below-or-not, tab, Filled}
+use Rattle.words.proofs.Cases.{below-or-not}
+use Rattle.cmac.proofs.Fill.{tab, Filled}
 
 -- byte i of the block l shifted
 abbrev pub shiftedByte : List ℕ → ℕ → ℕ

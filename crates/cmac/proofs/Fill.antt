@@ -1,23 +1,14 @@
 -- Lists by their entries, and an array that a loop fills from the front.
 use mathlib.Core.Path.{_≡_, refl, sym, ap, ap₂, _∙_}
 use mathlib.Core.List.{List, [], _∷_, _++_}
-use mathlib.Core.Logic.{_⊎_, inl, inr, ⊎-elim}
+use mathlib.Core.Logic.{⊎-elim}
 use Prim.Native.Nat.{ℕ, zero, suc, _+_, _<_, _≤_}
-use native.Mathlib.Decide.{decLt}
 use native.Mathlib.Nat.{le-of-eq, eq-or-lt-of-le}
 use native.Mathlib.Numerals.{add-one}
 use native.Mathlib.Omega.{arith}
 use lib.ListN.{length, take, set, length-append, length-set, List·getD-append}
 use lib.Seq.{getD-at, take-all, take-suc-set}
 use Rattle.words.specs.Bytes.{at}
-
--- an index is inside or not
-pub below-or-not : (i n : ℕ) → (i < n) ⊎ (n ≤ i)
-below-or-not i n = go (decLt i n)
-  where
-    go : Dec (i < n) → (i < n) ⊎ (n ≤ i)
-    go (yes l) = inl l
-    go (no g) = inr (omega arith)
 
 -- f 0 to f (n - 1)
 unfoldable pub tab : ℕ → (ℕ → ℕ) → List ℕ

@@ -10,7 +10,8 @@ use lib.Seq.{ext-getD, getD-at, getD-append-seam, getD-append-add, getD-take, ge
 use Rattle.words.specs.Bytes.{at, block, part}
 use Rattle.cmac.specs.Cmac.{padding}
 use Rattle.cmac.specs.Padded.{paddedByte}
-use Rattle.cmac.proofs.Fill.{below-or-not, tab, at-tab}
+use Rattle.words.proofs.Cases.{below-or-not}
+use Rattle.cmac.proofs.Fill.{tab, at-tab}
 
 module _ (m : List ℕ) (i : ℕ) where
   pub padded-inside : i < length m → paddedByte m i ≡ at m i

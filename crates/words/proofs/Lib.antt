@@ -1,2 +1,4 @@
 pub mod Bytes
 pub mod Stores
+pub mod Cases
+pub mod Same

@@ -1,7 +1,9 @@
 -- Byte strings. What is read past the end of one is 0.
 use Prim.Native.Nat.{ℕ}
+use mathlib.Core.Bool.{Bool, true, false, _&&_}
 use mathlib.Core.List.{List, [], _∷_}
 use lib.Bits.{bitXor}
+use lib.Dec.{eqb}
 use lib.ListN.{getD, take, drop}
 
 -- byte i of s
@@ -20,3 +22,10 @@ part s o n = take n (drop o s)
 -- two blocks, byte by byte
 unfoldable pub xorBlock : List ℕ → List ℕ → List ℕ
 xorBlock p q = block (λ i. bitXor (at p i) (at q i))
+
+-- whether two strings have the same bytes
+unfoldable pub same : List ℕ → List ℕ → Bool
+same [] [] = true
+same [] (y ∷ ys) = false
+same (x ∷ xs) [] = false
+same (x ∷ xs) (y ∷ ys) = eqb x y && same xs ys

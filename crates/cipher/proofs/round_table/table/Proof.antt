@@ -2,7 +2,8 @@
 use mathlib.Core.Path.{refl}
 use Rattle.cipher.specs.Field.{xTimes, timesLow, times, inverse}
 use Rattle.cipher.specs.SBox.{affine, sBox}
-use Rattle.cipher.proofs.Tables.{same, mixes, is-round-table}
+use Rattle.words.specs.Bytes.{same}
+use Rattle.cipher.proofs.Tables.{mixes, is-round-table}
 use Rattle.cipher.proofs.round_table.table.Statement.{statement}
 use Rattle.cipher.proofs.round_table.table.Tie as tie
 

@@ -1,0 +1,78 @@
+-- Byte strings: numbers as bytes, parts, and parts after a store.
+use mathlib.Core.Path.{_≡_, refl, sym, ap, ap₂, _∙_}
+use mathlib.Core.List.{List, [], _∷_, _++_, append-assoc}
+use mathlib.Core.Logic.{_⊎_, inl, inr, ⊎-elim}
+use Prim.Native.Nat.{ℕ, zero, suc, _+_, _-_, _/_, _%_, _^_, _<_, _≤_}
+use native.Mathlib.Nat.{pow-suc, add-suc, suc-add}
+use native.Mathlib.Omega.{arith}
+use lib.ListN.{length, take, drop, set, length-append, length-take, length-drop}
+use lib.Seq.{take-append-seam, drop-append-seam, take-at, drop-at, getD-take, getD-drop, getD-set-other, ext-getD, drop-drop, length-take-le, sets, length-sets, sets-eq}
+use Rattle.words.specs.Bytes.{at, part}
+use Rattle.words.proofs.Cases.{below-or-not, equal-or-not}
+use Rattle.tree.specs.Numbers.{be, be8}
+
+pub append-inj : {A : Type 0} (a b c d : List A) → length a ≡ length c → a ++ b ≡ c ++ d → (a ≡ c) × (b ≡ d)
+append-inj a b c d h e =
+    let n = length a in (
+      sym (take-append-seam a b) ∙ ap (take n) e ∙ take-at c d n (sym h),
+      sym (drop-append-seam a b) ∙ ap (drop n) e ∙ drop-at c d n (sym h),
+    )
+
+pub length-be : (k x : ℕ) → length (be k x) ≡ k
+unfolding be
+length-be zero x = refl
+length-be (suc k) x = length-append (be k (x / 256)) (x % 256 ∷ []) ∙ omega (arith, length-be k (x / 256))
+
+pub be-inj : (k x y : ℕ) → x < 256 ^ k → y < 256 ^ k → be k x ≡ be k y → x ≡ y
+unfolding be
+be-inj zero x y hx hy e = omega arith
+be-inj (suc k) x y hx hy e =
+    let p = pow-suc 256 k in
+    let q = append-inj (be k (x / 256)) (x % 256 ∷ []) (be k (y / 256)) (y % 256 ∷ []) (length-be k (x / 256) ∙ sym (length-be k (y / 256))) e in
+    let high : x / 256 ≡ y / 256 = be-inj k (x / 256) (y / 256) (omega arith) (omega arith) (q .0) in
+    let low : x % 256 ≡ y % 256 = cc (q .1) in
+    omega arith
+
+-- a store changes nothing beside it
+pub at-sets-apart : (x c : List ℕ) (o j : ℕ) → (j < o) ⊎ (o + length x ≤ j) → at (sets c o x) j ≡ at c j
+at-sets-apart [] c o j h = refl
+at-sets-apart (v ∷ x) c o j (inl h) =
+    at-sets-apart x (set c o v) (suc o) j (inl (omega arith)) ∙ getD-set-other c o j v 0 (λ (e : j ≡ o). omega arith)
+at-sets-apart (v ∷ x) c o j (inr h) =
+    at-sets-apart x (set c o v) (suc o) j (inr (omega arith)) ∙ getD-set-other c o j v 0 (λ (e : j ≡ o). omega arith)
+
+-- parts of two strings of one length are equal where their bytes are
+pub part-ext : (s t : List ℕ) (o n : ℕ) → length s ≡ length t → ((j : ℕ) → j < n → at s (o + j) ≡ at t (o + j)) → part s o n ≡ part t o n
+part-ext s t o n e f =
+    ext-getD 0 (part s o n) (part t o n) (simp (length-take, length-drop) (omega arith))
+    (λ j h.
+    let l : j < n = omega (arith, length-take n (drop o s)) in
+    getD-take n (drop o s) j 0 l ∙ getD-drop o s j 0 ∙ f j l ∙ sym (getD-take n (drop o t) j 0 l ∙ getD-drop o t j 0))
+
+pub part-sets-apart : (x c : List ℕ) (o p n : ℕ) → (p + n ≤ o) ⊎ (o + length x ≤ p) → part (sets c o x) p n ≡ part c p n
+part-sets-apart x c o p n h =
+    part-ext (sets c o x) c p n (length-sets c o x)
+    (λ j l. at-sets-apart x c o (p + j) (⊎-elim (λ (b : p + n ≤ o). inl (omega arith)) (λ (a : o + length x ≤ p). inr (omega arith)) h))
+
+-- what was stored is there: its first part and its second
+module _ (x y c : List ℕ) (o : ℕ) (fits : o + length (x ++ y) ≤ length c) where
+  stored : drop o (sets c o (x ++ y)) ≡ x ++ (y ++ drop (o + length (x ++ y)) c)
+  stored =
+      let r = drop (o + length (x ++ y)) c in
+      let n : length (take o c) ≡ o = length-take-le o c (omega arith) in
+      ap (drop o) (sets-eq (x ++ y) c o fits ∙ append-assoc (take o c) (x ++ y) r)
+      ∙ drop-at (take o c) (x ++ y ++ r) o n ∙ append-assoc x y r
+
+  pub part-sets-first : part (sets c o (x ++ y)) o (length x) ≡ x
+  part-sets-first = ap (take (length x)) stored ∙ take-append-seam x (y ++ drop (o + length (x ++ y)) c)
+
+  pub part-sets-second : part (sets c o (x ++ y)) (o + length x) (length y) ≡ y
+  part-sets-second =
+      let r = drop (o + length (x ++ y)) c in
+      ap (take (length y)) (sym (drop-drop (length x) o (sets c o (x ++ y))) ∙ ap (drop (length x)) stored ∙ drop-append-seam x (y ++ r))
+      ∙ take-append-seam y r
+
+  pub at-sets-first : (k : ℕ) → k < length x → at (sets c o (x ++ y)) (o + k) ≡ at x k
+  at-sets-first k h =
+      sym (getD-take (length x) (drop o (sets c o (x ++ y))) k 0 h ∙ getD-drop o (sets c o (x ++ y)) k 0)
+      ∙ ap (λ (z : List ℕ). at z k) part-sets-first

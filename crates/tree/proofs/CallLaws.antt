@@ -1,0 +1,237 @@
+-- What an answer says: which limits were passed, which tags are right, and what the call left.
+use mathlib.Core.Path.{_≡_, refl, sym, ap, subst, _∙_}
+use mathlib.Core.Bool.{Bool, true, false, not, cond, _||_}
+use mathlib.Core.List.{List, [], _∷_, List·Memᴰ, List·Memᴰ·head, List·Memᴰ·tail, List·Memᴰ·cases-cons, List·Memᴰ·not-nil}
+use mathlib.Core.Logic.{_⊎_, inl, inr, ⊎-elim}
+use mathlib.Core.Option.{Option, none, some}
+use Prim.Native.Nat.{ℕ, _+_, _*_, _%_, _^_, _<_, _≤_}
+use native.Mathlib.Omega.{arith}
+use borrow.Author.Tests.{ltb-false, leb-false, eqb-true, eqb-false, not-false, eq-eqb, ne-eqb, le-ltb, lt-leb}
+use lib.Dec.{eqb, ltb, leb}
+use lib.ListN.{length}
+use Rattle.tree.specs.Layout.{cardLength, tag}
+use Rattle.tree.specs.Labels.{message, labels}
+use Rattle.tree.specs.Card.{right, firstWrong}
+use Rattle.tree.specs.Limits.{Limit, depthLimit, nonceLimit, cardLimit, firstFailing}
+use Rattle.tree.specs.Calls.{Call, read, write, check, limits, checks, verdict, Outcome, answerOf, done, settled, outcome}
+use Rattle.tree.specs.declared.Node.{Node}
+use Rattle.tree.specs.declared.Anchor.{Anchor}
+use Rattle.tree.specs.declared.Refusal.{Refusal}
+use Rattle.tree.specs.declared.Answer.{Answer}
+use Rattle.tree.specs.declared.Answer.the-variants.{Whole, Wrong, Refused}
+use Rattle.words.specs.Bytes.{same}
+use Rattle.words.proofs.Cases.{below-or-not}
+use Rattle.words.proofs.Same.{same-is, same-refl}
+use Rattle.tree.proofs.WriteLaws.{Right}
+
+-- Limits
+
+-- the first limit and the rest are passed
+passes : (l : Limit) (ls : List Limit) → firstFailing (l ∷ ls) ≡ none → (l .fails ≡ false) × (firstFailing ls ≡ none)
+unfolding firstFailing
+passes l ls e = go (l .fails) e
+  where
+    go : (b : Bool) → cond b (some (l .refusal)) (firstFailing ls) ≡ none → (b ≡ false) × (firstFailing ls ≡ none)
+    go true e = let z : _≡_ {A = ℕ} 0 1 = cc in absurd (omega arith)
+    go false e = (refl, e)
+
+pass : (l : Limit) (ls : List Limit) → l .fails ≡ false → firstFailing ls ≡ none → firstFailing (l ∷ ls) ≡ none
+unfolding firstFailing
+pass l ls f e = rw f e
+
+no-limits : firstFailing [] ≡ none
+unfolding firstFailing
+no-limits = refl
+
+not-or : (a b : Bool) → (a || b) ≡ false → (a ≡ false) × (b ≡ false)
+not-or true b e = let z : _≡_ {A = ℕ} 0 1 = cc in absurd (omega arith)
+not-or false b e = (refl, e)
+
+or-not : (a b : Bool) → a ≡ false → b ≡ false → (a || b) ≡ false
+or-not true b p q = p
+or-not false b p q = q
+
+is-equal : (m n : ℕ) → not (eqb m n) ≡ false → m ≡ n
+is-equal m n e = eqb-true m n (not-false (eqb m n) e)
+
+equal-is : (m n : ℕ) → m ≡ n → not (eqb m n) ≡ false
+equal-is m n e = ap not (eq-eqb m n e)
+
+-- limits 1 to 3
+pub record Sound (n t : ℕ) (card : List ℕ) : Type 0 where
+  pub deep : 1 ≤ n
+  pub shallow : n ≤ 16
+  pub multiple : t % n ≡ 0
+  pub full : length card ≡ cardLength n
+
+-- and those of a call
+pub record Reads (n t : ℕ) (card : List ℕ) (i : ℕ) (buffer : List ℕ) : Type 0 where
+  pub sound : Sound n t card
+  pub inside : i < 2 ^ n
+  pub long : length buffer ≡ 64
+
+pub record Writes (n t : ℕ) (card : List ℕ) (i : ℕ) (block ranges : List ℕ) : Type 0 where
+  pub sound : Sound n t card
+  pub inside : i < 2 ^ n
+  pub long : length block ≡ 64
+  pub room : 16 * n ≤ length ranges
+  pub unspent : t + n < 2 ^ 64
+
+abbrev pub Passes : Anchor → List ℕ → Call → Type 0
+Passes a card (read i buffer) = Reads (a .depth) (a .root .0) card i buffer
+Passes a card (write i block ranges) = Writes (a .depth) (a .root .0) card i block ranges
+Passes a card check = Sound (a .depth) (a .root .0) card
+
+module _ (n t : ℕ) (card : List ℕ) where
+  abbrev first : List Limit → List Limit
+  first ls = depthLimit n ∷ nonceLimit n t ∷ cardLimit n (length card) ∷ ls
+
+  first-passed : (ls : List Limit) → firstFailing (first ls) ≡ none → Sound n t card × (firstFailing ls ≡ none)
+  first-passed ls e =
+      let p = passes _ _ e in
+      let q = passes _ _ (p .1) in
+      let r = passes _ _ (q .1) in
+      let d = not-or (eqb n 0) (ltb 16 n) (p .0) in
+      let deep : 1 ≤ n =
+      ⊎-elim (λ (z : n < 1). absurd (eqb-false n 0 (d .0) (omega arith))) (λ (g : 1 ≤ n). g) (below-or-not n 1) in (
+        record {
+          deep = deep;
+          shallow = ltb-false 16 n (d .1);
+          multiple = is-equal (t % n) 0 (q .0);
+          full = is-equal (length card) (cardLength n) (r .0);
+        },
+        r .1,
+      )
+
+  pass-first : (ls : List Limit) → Sound n t card → firstFailing ls ≡ none → firstFailing (first ls) ≡ none
+  pass-first ls s e =
+      pass _ _ (or-not (eqb n 0) (ltb 16 n) (ne-eqb n 0 (λ (z : n ≡ 0). omega (arith, s .deep))) (le-ltb 16 n (s .shallow)))
+      (pass _ _ (equal-is (t % n) 0 (s .multiple)) (pass _ _ (equal-is (length card) (cardLength n) (s .full)) e))
+
+-- a call whose limits are all passed
+pub passed : (a : Anchor) (card : List ℕ) (c : Call) → firstFailing (limits a card c) ≡ none → Passes a card c
+unfolding limits
+passed a card (read i buffer) e =
+    let p = first-passed (a .depth) (a .root .0) card _ e in
+    let q = passes _ _ (p .1) in
+    let r = passes _ _ (q .1) in
+    record { sound = p .0; inside = leb-false (2 ^ a .depth) i (q .0); long = is-equal (length buffer) 64 (r .0) }
+passed a card (write i block ranges) e =
+    let p = first-passed (a .depth) (a .root .0) card _ e in
+    let q = passes _ _ (p .1) in
+    let r = passes _ _ (q .1) in
+    let s = passes _ _ (r .1) in
+    let u = passes _ _ (s .1) in
+    record {
+      sound = p .0;
+      inside = leb-false (2 ^ a .depth) i (q .0);
+      long = is-equal (length block) 64 (r .0);
+      room = ltb-false (length ranges) (16 * a .depth) (s .0);
+      unspent = leb-false (2 ^ 64) (a .root .0 + a .depth) (u .0);
+    }
+passed a card check e = first-passed (a .depth) (a .root .0) card _ e .0
+
+pub pass-all : (a : Anchor) (card : List ℕ) (c : Call) → Passes a card c → firstFailing (limits a card c) ≡ none
+unfolding limits
+pass-all a card (read i buffer) p =
+    pass-first (a .depth) (a .root .0) card _ (p .sound)
+    (pass _ _ (lt-leb (2 ^ a .depth) i (p .inside)) (pass _ _ (equal-is (length buffer) 64 (p .long)) no-limits))
+pass-all a card (write i block ranges) p =
+    pass-first (a .depth) (a .root .0) card _ (p .sound)
+    (pass _ _ (lt-leb (2 ^ a .depth) i (p .inside))
+    (pass _ _ (equal-is (length block) 64 (p .long))
+    (pass _ _ (le-ltb (length ranges) (16 * a .depth) (p .room))
+    (pass _ _ (lt-leb (2 ^ 64) (a .root .0 + a .depth) (p .unspent)) no-limits))))
+pass-all a card check p = pass-first (a .depth) (a .root .0) card _ p no-limits
+
+-- Tags
+
+module _ (F : List ℕ → List ℕ) (n t : ℕ) (card : List ℕ) where
+  right-is : (u : ℕ) → right F n t card u ≡ true → Right F n t card u
+  right-is u e = same-is (F (message (labels n t card) u)) (tag n card u) e
+
+  is-right : (u : ℕ) → Right F n t card u → right F n t card u ≡ true
+  is-right u e = ap (same (F (message (labels n t card) u))) (sym e) ∙ same-refl (F (message (labels n t card) u))
+
+  pub none-wrong : (us : List ℕ) → firstWrong F n t card us ≡ none → (u : ℕ) → List·Memᴰ u us → Right F n t card u
+  unfolding firstWrong
+  none-wrong [] e u m = absurd (List·Memᴰ·not-nil m)
+  none-wrong (w ∷ us) e u m = go (none-wrong us) (right F n t card w) refl e (List·Memᴰ·cases-cons m)
+    where
+      go : (firstWrong F n t card us ≡ none → (u : ℕ) → List·Memᴰ u us → Right F n t card u) → (b : Bool) → right F n t card w ≡ b
+          → cond b (firstWrong F n t card us) (some w) ≡ none → (u ≡ w) ⊎ List·Memᴰ u us → Right F n t card u
+      go rest true p e (inl q) = subst (λ (v : ℕ). Right F n t card v) (sym q) (right-is w p)
+      go rest true p e (inr k) = rest e u k
+      go rest false p e k = let z : _≡_ {A = ℕ} 0 1 = cc in absurd (omega arith)
+
+  pub wrong-none : (us : List ℕ) → ((u : ℕ) → List·Memᴰ u us → Right F n t card u) → firstWrong F n t card us ≡ none
+  unfolding firstWrong
+  wrong-none [] f = refl
+  wrong-none (w ∷ us) f = rw (is-right w (f w (List·Memᴰ·head refl))) (wrong-none us (λ u m. f u (List·Memᴰ·tail m)))
+
+-- Answers
+
+pub verdict-whole : (r : Option Refusal) (w : Option ℕ) → verdict r w ≡ Whole → (r ≡ none) × (w ≡ none)
+verdict-whole (some r) w e = let z : _≡_ {A = ℕ} 0 1 = cc in absurd (omega arith)
+verdict-whole none (some u) e = let z : _≡_ {A = ℕ} 0 1 = cc in absurd (omega arith)
+verdict-whole none none e = (refl, refl)
+
+pub verdict-wrong : (r : Option Refusal) (w : Option ℕ) (u : Node) → verdict r w ≡ Wrong u → (r ≡ none) × (w ≡ none → ⊥)
+verdict-wrong (some r) w u e = let z : _≡_ {A = ℕ} 0 1 = cc in absurd (omega arith)
+verdict-wrong none (some v) u e = (refl, λ p. let z : _≡_ {A = ℕ} 0 1 = cc in omega arith)
+verdict-wrong none none u e = let z : _≡_ {A = ℕ} 0 1 = cc in absurd (omega arith)
+
+module _ (F : List ℕ → List ℕ) (a : Anchor) (card : List ℕ) (c : Call) where
+  -- an accepted call passed its limits, and every tag that it checked is right
+  pub record Accepted : Type 0 where
+    pub limits-passed : Passes a card c
+    pub tags-right : (u : ℕ) → List·Memᴰ u (checks (a .depth) c) → Right F (a .depth) (a .root .0) card u
+
+  pub accepted : answerOf F a card c ≡ Whole → Accepted
+  unfolding answerOf
+  accepted e =
+      let v = verdict-whole _ _ e in
+      record { limits-passed = passed a card c (v .0); tags-right = none-wrong F (a .depth) (a .root .0) card (checks (a .depth) c) (v .1) }
+
+  pub accept : Accepted → answerOf F a card c ≡ Whole
+  unfolding answerOf
+  accept h =
+      rw (pass-all a card c (h .limits-passed)) (ap (verdict none) (wrong-none F (a .depth) (a .root .0) card (checks (a .depth) c) (h .tags-right)))
+
+  -- where every tag that it checks is right, a call names no wrong one
+  pub never-wrong : (Passes a card c → (u : ℕ) → List·Memᴰ u (checks (a .depth) c) → Right F (a .depth) (a .root .0) card u) → (u : Node)
+      → answerOf F a card c ≡ Wrong u → ⊥
+  unfolding answerOf
+  never-wrong f u e =
+      let v = verdict-wrong _ _ u e in
+      v .1 (wrong-none F (a .depth) (a .root .0) card (checks (a .depth) c) (f (passed a card c (v .0))))
+
+-- Outcomes
+
+module _ (F : List ℕ → List ℕ) (a : Anchor) (card : List ℕ) where
+  settled-answer : (c : Call) (o : Answer) → settled F o a card c .answer ≡ o
+  settled-answer (read i buffer) Whole = refl
+  settled-answer (write i block ranges) Whole = refl
+  settled-answer check Whole = refl
+  settled-answer c (Wrong u) = refl
+  settled-answer c (Refused r) = refl
+
+  pub outcome-answer : (c : Call) → outcome F a card c .answer ≡ answerOf F a card c
+  unfolding outcome
+  outcome-answer c = settled-answer c (answerOf F a card c)
+
+  pub outcome-done : (c : Call) → answerOf F a card c ≡ Whole → outcome F a card c ≡ done F a card c
+  unfolding outcome
+  outcome-done c e = ap (λ (o : Answer). settled F o a card c) e
+
+  settled-key : (c : Call) (o : Answer) → (settled F o a card c .anchor .key ≡ a .key) × (settled F o a card c .anchor .depth ≡ a .depth)
+  settled-key (read i buffer) Whole = (refl, refl)
+  settled-key (write i block ranges) Whole = (refl, refl)
+  settled-key check Whole = (refl, refl)
+  settled-key c (Wrong u) = (refl, refl)
+  settled-key c (Refused r) = (refl, refl)
+
+  -- no call changes key or depth
+  pub outcome-key : (c : Call) → (outcome F a card c .anchor .key ≡ a .key) × (outcome F a card c .anchor .depth ≡ a .depth)
+  unfolding outcome
+  outcome-key c = settled-key c (answerOf F a card c)

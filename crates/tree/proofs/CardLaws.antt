@@ -1,0 +1,130 @@
+-- What a card shows after nodes were stamped on it.
+use mathlib.Core.Path.{_≡_, refl, sym, ap, ap₂, subst, _∙_}
+use mathlib.Core.List.{List, [], _∷_, _++_, List·Memᴰ, List·Memᴰ·head, List·Memᴰ·tail, List·Memᴰ·cases-cons, List·Memᴰ·not-nil}
+use mathlib.Core.Logic.{_⊎_, inl, inr, ⊎-elim}
+use Prim.Native.Nat.{ℕ, _+_, _<_, _≤_}
+use native.Mathlib.Omega.{arith}
+use lib.ListN.{length, length-append}
+use lib.Seq.{sets, length-sets}
+use Rattle.words.specs.Bytes.{at, part}
+use Rattle.words.proofs.Cases.{equal-or-not}
+use Rattle.tree.specs.Layout.{size, offset, cardLength, label, tag}
+use Rattle.tree.specs.Labels.{Labels, message}
+use Rattle.tree.specs.Card.{stamp, stamped}
+use Rattle.tree.proofs.ByteLaws.{at-sets-apart, at-sets-first, part-sets-apart, part-sets-first, part-sets-second}
+use Rattle.tree.proofs.LayoutLaws.{IsNode, AllNodes, entry-fits, entry-apart}
+use Rattle.tree.proofs.LabelLaws.{Sized}
+
+-- two cards show the same entry of u
+pub record Alike (n : ℕ) (c d : List ℕ) (u : ℕ) : Type 0 where
+  pub label-same : label n c u ≡ label n d u
+  pub tag-same : tag n c u ≡ tag n d u
+
+pub alike-trans : {n : ℕ} {c d e : List ℕ} {u : ℕ} → Alike n c d u → Alike n d e u → Alike n c e u
+alike-trans p q = record { label-same = p .label-same ∙ q .label-same; tag-same = p .tag-same ∙ q .tag-same }
+
+-- the stamp of u leaves byte j, or puts x there
+pub record Puts (n : ℕ) (L : Labels) (u j x : ℕ) : Type 0 where
+  pub place : ℕ
+  pub below : place < size n u
+  pub is : j ≡ offset n u + place
+  pub puts : at (L u) place ≡ x
+
+abbrev pub Leaves : ℕ → Labels → ℕ → ℕ → ℕ → Type 0
+Leaves n L u j x = ((j < offset n u) ⊎ (offset n u + (size n u + 16) ≤ j)) ⊎ Puts n L u j x
+
+module _ (F : List ℕ → List ℕ) (F16 : (m : List ℕ) → length (F m) ≡ 16) (n : ℕ) (L : Labels) (sized : Sized n L) where
+  -- a card shows u as stamped
+  pub record Shows (card : List ℕ) (u : ℕ) : Type 0 where
+    pub label-is : label n card u ≡ L u
+    pub tag-is : tag n card u ≡ F (message L u)
+
+  entry-length : (u : ℕ) → IsNode n u → length (L u ++ F (message L u)) ≡ size n u + 16
+  entry-length u h = length-append (L u) (F (message L u)) ∙ ap₂ _+_ (sized u h) (F16 (message L u))
+
+  pub length-stamped : (us card : List ℕ) → length (stamped F n L us card) ≡ length card
+  unfolding stamped
+  length-stamped [] card = refl
+  length-stamped (u ∷ us) card = length-stamped us (stamp F n L card u) ∙ length-sets card (offset n u) (L u ++ F (message L u))
+
+  module _ (card : List ℕ) (full : length card ≡ cardLength n) (u : ℕ) (h : IsNode n u) where
+    room : offset n u + length (L u ++ F (message L u)) ≤ length card
+    room = omega (arith, entry-length u h, entry-fits n u h)
+
+    stamp-shows : Shows (stamp F n L card u) u
+    unfolding label tag
+    stamp-shows =
+        let c = stamp F n L card u in
+        record {
+          label-is = ap (part c (offset n u)) (sym (sized u h)) ∙ part-sets-first (L u) (F (message L u)) card (offset n u) room;
+          tag-is =
+              ap₂ (λ (k m : ℕ). part c (offset n u + k) m) (sym (sized u h)) (sym (F16 (message L u)))
+              ∙ part-sets-second (L u) (F (message L u)) card (offset n u) room;
+        }
+
+    stamp-keeps : (w : ℕ) → IsNode n w → (w ≡ u → ⊥) → Alike n (stamp F n L card u) card w
+    unfolding label tag
+    stamp-keeps w hw d =
+        let x = L u ++ F (message L u) in
+        let l = entry-length u h in
+        record {
+          label-same =
+              part-sets-apart x card (offset n u) (offset n w) (size n w)
+              (⊎-elim (λ (p : offset n w + (size n w + 16) ≤ offset n u). inl (omega arith))
+              (λ (q : offset n u + (size n u + 16) ≤ offset n w). inr (omega arith)) (entry-apart n w u hw h d));
+          tag-same =
+              part-sets-apart x card (offset n u) (offset n w + size n w) 16
+              (⊎-elim (λ (p : offset n w + (size n w + 16) ≤ offset n u). inl (omega arith))
+              (λ (q : offset n u + (size n u + 16) ≤ offset n w). inr (omega arith)) (entry-apart n w u hw h d));
+        }
+
+  stamp-byte : (card : List ℕ) → length card ≡ cardLength n → (u : ℕ) → IsNode n u → (j x : ℕ) → Leaves n L u j x → at card j ≡ x → at (stamp F n L card u) j ≡ x
+  stamp-byte card full u h j x (inl o) e =
+      let l = entry-length u h in
+      at-sets-apart (L u ++ F (message L u)) card (offset n u) j
+      (⊎-elim (λ (p : j < offset n u). inl p) (λ (q : offset n u + (size n u + 16) ≤ j). inr (omega arith)) o) ∙ e
+  stamp-byte card full u h j x (inr p) e =
+      let l = sized u h in
+      ap (at (stamp F n L card u)) (p .is)
+      ∙ at-sets-first (L u) (F (message L u)) card (offset n u) (room card full u h) (p .place) (omega (arith, p .below)) ∙ p .puts
+
+  -- a stamped node is shown as stamped
+  pub stamped-shows : (us : List ℕ) → AllNodes n us → (card : List ℕ) → length card ≡ cardLength n
+      → (u : ℕ) → IsNode n u → Shows card u ⊎ List·Memᴰ u us → Shows (stamped F n L us card) u
+  unfolding stamped
+  stamped-shows [] nodes card full u h (inl s) = s
+  stamped-shows [] nodes card full u h (inr m) = absurd (List·Memᴰ·not-nil m)
+  stamped-shows (w ∷ us) nodes card full u h o =
+      stamped-shows us (λ v m. nodes v (List·Memᴰ·tail m)) (stamp F n L card w)
+      (length-sets card (offset n w) (L w ++ F (message L w)) ∙ full) u h (go (equal-or-not u w) o)
+    where
+      hw : IsNode n w
+      hw = nodes w (List·Memᴰ·head refl)
+
+      go : (u ≡ w) ⊎ (u ≡ w → ⊥) → Shows card u ⊎ List·Memᴰ u (w ∷ us) → Shows (stamp F n L card w) u ⊎ List·Memᴰ u us
+      go (inl e) o = inl (subst (λ (v : ℕ). Shows (stamp F n L card w) v) (sym e) (stamp-shows card full w hw))
+      go (inr d) (inl s) =
+          let k = stamp-keeps card full w hw u h d in
+          inl (record { label-is = k .label-same ∙ s .label-is; tag-is = k .tag-same ∙ s .tag-is })
+      go (inr d) (inr m) = ⊎-elim (λ (e : u ≡ w). absurd (d e)) (λ (t : List·Memᴰ u us). inr t) (List·Memᴰ·cases-cons m)
+
+  -- a byte that every stamp leaves, or puts again
+  pub stamped-byte : (us : List ℕ) → AllNodes n us → (card : List ℕ) → length card ≡ cardLength n
+      → (j x : ℕ) → ((w : ℕ) → List·Memᴰ w us → Leaves n L w j x) → at card j ≡ x → at (stamped F n L us card) j ≡ x
+  unfolding stamped
+  stamped-byte [] nodes card full j x f e = e
+  stamped-byte (w ∷ us) nodes card full j x f e =
+      stamped-byte us (λ v m. nodes v (List·Memᴰ·tail m)) (stamp F n L card w)
+      (length-sets card (offset n w) (L w ++ F (message L w)) ∙ full) j x (λ v m. f v (List·Memᴰ·tail m))
+      (stamp-byte card full w (nodes w (List·Memᴰ·head refl)) j x (f w (List·Memᴰ·head refl)) e)
+
+  -- any other is shown as before
+  pub stamped-keeps : (us : List ℕ) → AllNodes n us → (card : List ℕ) → length card ≡ cardLength n
+      → (u : ℕ) → IsNode n u → (List·Memᴰ u us → ⊥) → Alike n (stamped F n L us card) card u
+  unfolding stamped
+  stamped-keeps [] nodes card full u h o = record { label-same = refl; tag-same = refl }
+  stamped-keeps (w ∷ us) nodes card full u h o =
+      alike-trans
+      (stamped-keeps us (λ v m. nodes v (List·Memᴰ·tail m)) (stamp F n L card w)
+      (length-sets card (offset n w) (L w ++ F (message L w)) ∙ full) u h (λ m. o (List·Memᴰ·tail m)))
+      (stamp-keeps card full w (nodes w (List·Memᴰ·head refl)) u h (λ e. o (List·Memᴰ·head e)))

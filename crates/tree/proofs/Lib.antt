@@ -1,0 +1,9 @@
+pub mod ByteLaws
+pub mod LayoutLaws
+pub mod NodeLaws
+pub mod LabelLaws
+pub mod CardLaws
+pub mod WriteLaws
+pub mod RangeLaws
+pub mod CallLaws
+pub mod ScopeTable

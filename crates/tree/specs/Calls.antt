@@ -1,0 +1,102 @@
+-- What the calls do, on every input: the answer, the anchor, the card and the lent buffer as they leave it.
+use Prim.Native.Nat.{ℕ, _+_, _*_, _^_}
+use mathlib.Core.List.{List, [], _∷_, _++_}
+use mathlib.Core.Option.{Option, none, some}
+use lib.ListN.{length, drop}
+use Rattle.tree.specs.Layout.{label}
+use Rattle.tree.specs.Nodes.{path, pairsButLeaf, allNodes}
+use Rattle.tree.specs.Card.{blanked, written, firstWrong}
+use Rattle.tree.specs.Ranges.{rangesOf, encode}
+use Rattle.tree.specs.Limits.{Limit, depthLimit, nonceLimit, cardLimit, blockLimit, lengthLimit, rangeLimit, spentLimit, firstFailing}
+use Rattle.tree.specs.declared.Anchor.{Anchor}
+use Rattle.tree.specs.declared.Refusal.{Refusal}
+use Rattle.tree.specs.declared.Answer.{Answer}
+use Rattle.tree.specs.declared.Answer.the-variants.{Whole, Wrong, Refused}
+
+-- A call after format, with what it is lent: a buffer of any bytes to a read, a new block and a range buffer to a write.
+pub data Call : Type 0 where
+  read : (i : ℕ) (buffer : List ℕ) → Call
+  write : (i : ℕ) (block ranges : List ℕ) → Call
+  check : Call
+
+-- the buffer that a call may change
+abbrev pub lentTo : Call → List ℕ
+lentTo (read i buffer) = buffer
+lentTo (write i block ranges) = ranges
+lentTo check = []
+
+-- the limits that a call tests, in this order
+unfoldable pub limits : Anchor → List ℕ → Call → List Limit
+limits a card (read i buffer) =
+    depthLimit (a .depth) ∷ nonceLimit (a .depth) (a .root .0) ∷ cardLimit (a .depth) (length card) ∷ blockLimit (a .depth) i
+    ∷ lengthLimit (length buffer) ∷ []
+limits a card (write i block ranges) =
+    depthLimit (a .depth) ∷ nonceLimit (a .depth) (a .root .0) ∷ cardLimit (a .depth) (length card) ∷ blockLimit (a .depth) i
+    ∷ lengthLimit (length block) ∷ rangeLimit (a .depth) (length ranges) ∷ spentLimit (a .depth) (a .root .0) ∷ []
+limits a card check = depthLimit (a .depth) ∷ nonceLimit (a .depth) (a .root .0) ∷ cardLimit (a .depth) (length card) ∷ []
+
+-- the nodes whose tags a call checks, in this order
+unfoldable pub checks : ℕ → Call → List ℕ
+checks n (read i buffer) = path n i
+checks n (write i block ranges) = pairsButLeaf n i
+checks n check = allNodes n
+
+-- the first limit that fails; else the first wrong node; else whole
+abbrev pub verdict : Option Refusal → Option ℕ → Answer
+verdict (some r) w = Refused r
+verdict none (some u) = Wrong (record { 0 = u })
+verdict none none = Whole
+
+pub record Outcome : Type 0 where
+  pub answer : Answer
+  pub anchor : Anchor
+  pub card : List ℕ
+  pub lent : List ℕ
+
+-- the anchor with another root nonce
+abbrev pub rooted : Anchor → ℕ → Anchor
+rooted a t = record { key = a .key; depth = a .depth; root = record { 0 = t } }
+
+module _ (F : List ℕ → List ℕ) where
+  unfoldable pub answerOf : Anchor → List ℕ → Call → Answer
+  answerOf a card c = verdict (firstFailing (limits a card c)) (firstWrong F (a .depth) (a .root .0) card (checks (a .depth) c))
+
+  -- what an accepted call does
+  abbrev pub done : Anchor → List ℕ → Call → Outcome
+  done a card (read i buffer) =
+      record { answer = Whole; anchor = a; card = card; lent = label (a .depth) card (2 ^ a .depth + i) }
+  done a card (write i block ranges) =
+      record {
+        answer = Whole;
+        anchor = rooted a (a .root .0 + a .depth);
+        card = written F (a .depth) (a .root .0) (a .root .0) card i block;
+        lent = encode (rangesOf (a .depth) i) ++ drop (16 * a .depth) ranges;
+      }
+  done a card check = record { answer = Whole; anchor = a; card = card; lent = [] }
+
+  -- a refused call answers why and leaves everything as it was
+  abbrev pub settled : Answer → Anchor → List ℕ → Call → Outcome
+  settled Whole a card c = done a card c
+  settled (Wrong u) a card c = record { answer = Wrong u; anchor = a; card = card; lent = lentTo c }
+  settled (Refused r) a card c = record { answer = Refused r; anchor = a; card = card; lent = lentTo c }
+
+  unfoldable pub outcome : Anchor → List ℕ → Call → Outcome
+  outcome a card c = settled (answerOf a card c) a card c
+
+  -- Format makes the anchor of a key and a depth. Refused, it leaves the card as it was.
+  unfoldable pub formatAnswer : ℕ → List ℕ → Answer
+  formatAnswer n card = verdict (firstFailing (depthLimit n ∷ cardLimit n (length card) ∷ [])) none
+
+  abbrev pub formatCard : Answer → ℕ → List ℕ → List ℕ
+  formatCard Whole n card = blanked F n 0 card
+  formatCard (Wrong u) n card = card
+  formatCard (Refused r) n card = card
+
+  unfoldable pub format : List ℕ → ℕ → List ℕ → Outcome
+  format key n card =
+      record {
+        answer = formatAnswer n card;
+        anchor = record { key = key; depth = n; root = record { 0 = 0 } };
+        card = formatCard (formatAnswer n card) n card;
+        lent = [];
+      }

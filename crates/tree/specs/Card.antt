@@ -1,0 +1,37 @@
+-- Cards as format and write leave them, and tags as read, write and check see them, for any function F that makes a tag of a message.
+use Prim.Native.Nat.{ℕ}
+use mathlib.Core.Bool.{Bool, cond}
+use mathlib.Core.List.{List, [], _∷_, _++_}
+use mathlib.Core.Option.{Option, none, some}
+use lib.Seq.{sets}
+use Rattle.words.specs.Bytes.{same}
+use Rattle.tree.specs.Layout.{offset, tag}
+use Rattle.tree.specs.Nodes.{pairs, allNodes}
+use Rattle.tree.specs.Labels.{Labels, message, labels, blankLabels, newLabels}
+
+module _ (F : List ℕ → List ℕ) where
+  -- the card with node u's label and tag put in its place
+  abbrev pub stamp : ℕ → Labels → List ℕ → ℕ → List ℕ
+  stamp n L card u = sets card (offset n u) (L u ++ F (message L u))
+
+  -- the same for each node of a list
+  unfoldable pub stamped : ℕ → Labels → List ℕ → List ℕ → List ℕ
+  stamped n L [] card = card
+  stamped n L (u ∷ us) card = stamped n L us (stamp n L card u)
+
+  -- all nonces t, all blocks zero, all tags right
+  unfoldable pub blanked : ℕ → ℕ → List ℕ → List ℕ
+  blanked n t card = stamped n (blankLabels n t) (allNodes n) card
+
+  -- block i is b; t is the root nonce that the card was read with, and r the last nonce used
+  unfoldable pub written : ℕ → ℕ → ℕ → List ℕ → ℕ → List ℕ → List ℕ
+  written n t r card i b = stamped n (newLabels n r i b (labels n t card)) (pairs n i) card
+
+  -- the tag of node u is that of its message
+  abbrev pub right : ℕ → ℕ → List ℕ → ℕ → Bool
+  right n t card u = same (F (message (labels n t card) u)) (tag n card u)
+
+  -- the first node of a list whose tag is wrong
+  unfoldable pub firstWrong : ℕ → ℕ → List ℕ → List ℕ → Option ℕ
+  firstWrong n t card [] = none
+  firstWrong n t card (u ∷ us) = cond (right n t card u) (firstWrong n t card us) (some u)

@@ -1,0 +1,11 @@
+-- The tree on the card, in the order of document 01: numbers as bytes, the layout, the nodes, labels and messages, the cards that format
+-- and write leave, the ranges, the limits, and what each call does.
+pub mod Numbers
+pub mod Layout
+pub mod Nodes
+pub mod Labels
+pub mod Card
+pub mod Ranges
+pub mod Answer
+pub mod Limits
+pub mod Calls

@@ -1,0 +1,67 @@
+// The tree on the card: its words, and the answers of its calls.
+ghost use mathlib.Core.Path.{_≡_};
+ghost use Rattle.tree.specs.Answer.{numberOf, nodeOf};
+
+// A node: the root is 1, and node u has the children 2u and 2u + 1.
+pub struct Node(pub u64);
+
+// The number of a block (document 01: block number). Block i is the leaf 2^depth + i.
+pub struct BlockIndex(pub u64);
+
+// The number that the root or an inner node gets anew with each write below it (document 01: serial; the tree paper: nonce).
+pub struct Nonce(pub u64);
+
+// The chip's record, which is trusted.
+pub struct Anchor {
+    pub key: [u8; 16],
+    pub depth: u64,
+    pub root: Nonce,
+}
+
+// Why a call is refused before any tag is looked at, in the order of the papers' numbers, from 1.
+pub enum Refusal {
+    Depth,
+    RootNonce,
+    CardLength,
+    BlockNumber,
+    BlockLength,
+    RangeLength,
+    NoncesSpent,
+}
+
+// What a call answers: every tag that it checked is right, and it is accepted; or the first one that is wrong; or a refusal.
+pub enum Answer {
+    Whole,
+    Wrong(Node),
+    Refused(Refusal),
+}
+
+// The papers' number of an answer, 0 when accepted.
+pub fn number(a: Answer) -> u64
+    ensures { λ r. ⌜ r ≡ numberOf a ⌝ }
+{
+    match a {
+        Answer::Whole => 0,
+        Answer::Wrong(_) => 8,
+        Answer::Refused(r) => match r {
+            Refusal::Depth => 1,
+            Refusal::RootNonce => 2,
+            Refusal::CardLength => 3,
+            Refusal::BlockNumber => 4,
+            Refusal::BlockLength => 5,
+            Refusal::RangeLength => 6,
+            Refusal::NoncesSpent => 7,
+        },
+    }
+}
+
+// The node of an answer, 0 where it names none.
+pub fn node_of(a: Answer) -> u64
+    ensures { λ r. ⌜ r ≡ nodeOf a ⌝ }
+{
+    match a {
+        Answer::Whole => 0,
+        Answer::Wrong(u) => u.0,
+        Answer::Refused(_) => 0,
+    }
+}
