@@ -1,5 +1,4 @@
 -- A rule of every entry of a table, from one test that is computed over the whole of it.
-use mathlib.Core.Path.{_≡_, ap, sym, subst, _∙_}
 use mathlib.Core.Bool.{Bool, true, false, _&&_}
 use mathlib.Core.List.{List, [], _∷_}
 use Prim.Native.Nat.{ℕ, zero, suc, _+_, _<_}

@@ -1,7 +1,6 @@
 -- The worked example of FIPS 197, appendix B, and two entries of its table 4, computed from the definitions.
 use mathlib.Core.Path.{_≡_, refl}
-use mathlib.Core.List.{List, [], _∷_, _++_}
-use Prim.Native.Nat.{ℕ}
+use mathlib.Core.List.{[], _∷_}
 use Rattle.cipher.specs.Field.{xTimes, timesLow, times, inverse}
 use Rattle.cipher.specs.SBox.{affine, sBox}
 use Rattle.cipher.specs.State.{subBytes, shiftRows, mixRow, mixColumns, addRoundKey}

@@ -1,6 +1,6 @@
 -- A column of a round, from four entries of the table.
 use mathlib.Core.Path.{_≡_, refl, ap, ap₂, _∙_}
-use mathlib.Core.List.{List, [], _∷_, _++_}
+use mathlib.Core.List.{List}
 use Prim.Native.Nat.{ℕ, _/_, _%_, _<_}
 use lib.Bits.{bitXor}
 use Rattle.words.specs.Bytes.{at, part}

@@ -1,5 +1,5 @@
 -- The chain of blocks as one loop, the last block in it.
-use mathlib.Core.Path.{_≡_, refl, sym, ap, ap₂, fun-ext, _∙_}
+use mathlib.Core.Path.{_≡_, refl, ap, fun-ext, _∙_}
 use mathlib.Core.Bool.{cond}
 use mathlib.Core.List.{List}
 use Prim.Native.Nat.{ℕ, zero, suc, _+_, _-_, _≤_}
@@ -7,7 +7,7 @@ use native.Mathlib.Nat.{le-refl}
 use native.Mathlib.Numerals.{add-one}
 use native.Mathlib.Omega.{arith}
 use borrow.Author.Tests.{lt-ltb, le-ltb}
-use lib.Bits.{bitXor, xor-comm}
+use lib.Bits.{xor-comm}
 use lib.Dec.{ltb}
 use lib.ListN.{length}
 use Rattle.words.specs.Bytes.{at, block, xorBlock}

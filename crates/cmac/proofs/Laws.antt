@@ -1,17 +1,17 @@
 -- What a context gives, and what those above need to know of a tag.
-use mathlib.Core.Path.{_≡_, refl, sym, ap, ap₂, _∙_}
+use mathlib.Core.Path.{_≡_, refl, ap, ap₂, _∙_}
 use mathlib.Core.Bool.{Bool, true, false, cond}
-use mathlib.Core.List.{List, [], _∷_, _++_}
+use mathlib.Core.List.{List, _++_}
 use Prim.Native.Nat.{ℕ, _+_}
 use native.Mathlib.Nat.{le-of-eq}
 use lib.Dec.{ltb}
-use lib.ListN.{length, take, drop, replicate, length-append}
+use lib.ListN.{length, take, replicate, length-append}
 use lib.Seq.{take-at, drop-at, take-all}
 use Rattle.words.specs.Bytes.{at, part, xorBlock}
 use Rattle.cipher.specs.Cipher.{cipherOf, encryptOf}
 use Rattle.cipher.specs.KeyExpansion.{keyExpansion}
 use Rattle.cipher.proofs.Rounds.{cipher-of-key, length-encrypt}
-use Rattle.cmac.specs.Cmac.{zeros, shifted, rb, double, subkey1, subkey2, blocks, complete, padding, lastBlock, chain, cmacWith, cmacBy, cmacOf}
+use Rattle.cmac.specs.Cmac.{zeros, shifted, rb, double, subkey1, subkey2, blocks, complete, lastBlock, chain, cmacWith, cmacBy, cmacOf}
 use Rattle.cmac.specs.Context.{subkeysOf, tagUnder}
 
 -- a tag has 16 bytes, whatever the key and the message hold

@@ -1,11 +1,11 @@
 -- A message with its padding.
-use mathlib.Core.Path.{_≡_, refl, sym, ap, _∙_}
+use mathlib.Core.Path.{_≡_, sym, ap, _∙_}
 use mathlib.Core.List.{List, [], _∷_, _++_}
 use Prim.Native.Nat.{ℕ, suc, _+_, _-_, _<_, _≤_}
 use mathlib.Core.Logic.{⊎-elim}
 use native.Mathlib.Nat.{add-assoc, add-zero, eq-or-lt-of-le}
 use native.Mathlib.Omega.{arith}
-use lib.ListN.{length, take, drop, replicate, length-append, length-replicate, length-take, length-drop, getD-replicate, List·getD-append, List·getD-eq-default}
+use lib.ListN.{length, drop, replicate, length-append, length-replicate, length-take, length-drop, getD-replicate, List·getD-append, List·getD-eq-default}
 use lib.Seq.{ext-getD, getD-at, getD-append-seam, getD-append-add, getD-take, getD-drop}
 use Rattle.words.specs.Bytes.{at, block, part}
 use Rattle.cmac.specs.Cmac.{padding}

@@ -1,17 +1,15 @@
 -- What the exported functions' proofs share.
-use mathlib.Core.Path.{_≡_, refl, sym, ap, ap₂, _∙_}
+use mathlib.Core.Path.{_≡_, ap, ap₂, _∙_}
 use mathlib.Core.Bool.{Bool, true, false}
-use mathlib.Core.List.{List, [], _++_, append-nil}
-use Prim.Native.Nat.{ℕ, zero, suc, _+_, _≤_}
+use mathlib.Core.List.{List, _++_, append-nil}
+use Prim.Native.Nat.{ℕ, _+_, _≤_}
 use native.Mathlib.Nat.{le-of-eq, zero-add}
 use native.Mathlib.Numerals.{add-one}
 use native.Mathlib.Omega.{arith}
-use lib.ListN.{length, take, drop, length-append, length-drop, drop-of-length-le}
+use lib.ListN.{length, take, drop, drop-of-length-le}
 use lib.Seq.{sets, sets-eq, take-length, take-all}
 use Rattle.words.specs.Bytes.{part}
-use Rattle.cmac.specs.Cmac.{cmacOf}
-use Rattle.cmac.proofs.Laws.{length-cmac}
-use Rattle.probe.specs.Told.{Told, repeated, retagged}
+use Rattle.probe.specs.Told.{Told, repeated}
 
 module _ {fits : Bool} {work before : List ℕ} where
   pub refused : fits ≡ false → Told fits work before before 1

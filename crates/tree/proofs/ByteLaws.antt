@@ -1,15 +1,14 @@
 -- Byte strings: numbers as bytes, parts, and parts after a store.
-use mathlib.Core.Path.{_≡_, refl, sym, ap, ap₂, _∙_}
+use mathlib.Core.Path.{_≡_, refl, sym, ap, _∙_}
 use mathlib.Core.List.{List, [], _∷_, _++_, append-assoc}
 use mathlib.Core.Logic.{_⊎_, inl, inr, ⊎-elim}
-use Prim.Native.Nat.{ℕ, zero, suc, _+_, _-_, _/_, _%_, _^_, _<_, _≤_}
-use native.Mathlib.Nat.{pow-suc, add-suc, suc-add}
+use Prim.Native.Nat.{ℕ, zero, suc, _+_, _/_, _%_, _^_, _<_, _≤_}
+use native.Mathlib.Nat.{pow-suc}
 use native.Mathlib.Omega.{arith}
 use lib.ListN.{length, take, drop, set, length-append, length-take, length-drop}
 use lib.Seq.{take-append-seam, drop-append-seam, take-at, drop-at, getD-take, getD-drop, getD-set-other, ext-getD, drop-drop, length-take-le, sets, length-sets, sets-eq}
 use Rattle.words.specs.Bytes.{at, part}
-use Rattle.words.proofs.Cases.{below-or-not, equal-or-not}
-use Rattle.tree.specs.Numbers.{be, be8}
+use Rattle.tree.specs.Numbers.{be}
 
 pub append-inj : {A : Type 0} (a b c d : List A) → length a ≡ length c → a ++ b ≡ c ++ d → (a ≡ c) × (b ≡ d)
 append-inj a b c d h e =

@@ -7,13 +7,14 @@ use mathlib.Core.Option.{Option, none, some}
 use Prim.Native.Nat.{ℕ, _+_, _*_, _%_, _^_, _<_, _≤_}
 use native.Mathlib.Omega.{arith}
 use borrow.Author.Tests.{ltb-false, leb-false, eqb-true, eqb-false, not-false, eq-eqb, ne-eqb, le-ltb, lt-leb}
-use lib.Dec.{eqb, ltb, leb}
+use lib.Dec.{eqb, ltb}
 use lib.ListN.{length}
 use Rattle.tree.specs.Layout.{cardLength, tag}
+use Rattle.tree.specs.Nodes.{pathNode, pairs, pairsButLeaf}
 use Rattle.tree.specs.Labels.{message, labels}
 use Rattle.tree.specs.Card.{right, firstWrong}
 use Rattle.tree.specs.Limits.{Limit, depthLimit, nonceLimit, cardLimit, firstFailing}
-use Rattle.tree.specs.Calls.{Call, read, write, check, limits, checks, verdict, Outcome, answerOf, done, settled, outcome}
+use Rattle.tree.specs.Calls.{Call, read, write, check, limits, checks, verdict, formatAnswer, answerOf, done, settled, outcome}
 use Rattle.tree.specs.declared.Node.{Node}
 use Rattle.tree.specs.declared.Anchor.{Anchor}
 use Rattle.tree.specs.declared.Refusal.{Refusal}
@@ -22,6 +23,8 @@ use Rattle.tree.specs.declared.Answer.the-variants.{Whole, Wrong, Refuse
 use Rattle.words.specs.Bytes.{same}
 use Rattle.words.proofs.Cases.{below-or-not}
 use Rattle.words.proofs.Same.{same-is, same-refl}
+use Rattle.tree.proofs.LayoutLaws.{IsNode, AllNodes}
+use Rattle.tree.proofs.NodeLaws.{pair-checked, checked-pair, pair-node, path-among, path-is-node, node-among, among-node}
 use Rattle.tree.proofs.WriteLaws.{Right}
 
 -- Limits
@@ -82,6 +85,9 @@ Passes a card (read i buffer) = Reads (a .depth) (a .root .0) card i buffer
 Passes a card (write i block ranges) = Writes (a .depth) (a .root .0) card i block ranges
 Passes a card check = Sound (a .depth) (a .root .0) card
 
+depth-passes : (n : ℕ) → 1 ≤ n → n ≤ 16 → depthLimit n .fails ≡ false
+depth-passes n deep shallow = or-not (eqb n 0) (ltb 16 n) (ne-eqb n 0 (λ (z : n ≡ 0). omega arith)) (le-ltb 16 n shallow)
+
 module _ (n t : ℕ) (card : List ℕ) where
   abbrev first : List Limit → List Limit
   first ls = depthLimit n ∷ nonceLimit n t ∷ cardLimit n (length card) ∷ ls
@@ -105,7 +111,7 @@ module _ (n t : ℕ) (card : List ℕ) where
 
   pass-first : (ls : List Limit) → Sound n t card → firstFailing ls ≡ none → firstFailing (first ls) ≡ none
   pass-first ls s e =
-      pass _ _ (or-not (eqb n 0) (ltb 16 n) (ne-eqb n 0 (λ (z : n ≡ 0). omega (arith, s .deep))) (le-ltb 16 n (s .shallow)))
+      pass _ _ (depth-passes n (s .deep) (s .shallow))
       (pass _ _ (equal-is (t % n) 0 (s .multiple)) (pass _ _ (equal-is (length card) (cardLength n) (s .full)) e))
 
 -- a call whose limits are all passed
@@ -168,6 +174,29 @@ module _ (F : List ℕ → List ℕ) (n t : ℕ) (card : List ℕ) where
   unfolding firstWrong
   wrong-none [] f = refl
   wrong-none (w ∷ us) f = rw (is-right w (f w (List·Memᴰ·head refl))) (wrong-none us (λ u m. f u (List·Memᴰ·tail m)))
+
+-- What each call checks
+
+pub read-checks : (n i : ℕ) (buffer : List ℕ) → i < 2 ^ n → (y : ℕ) → 1 ≤ y → y ≤ n → List·Memᴰ (pathNode n i y) (checks n (read i buffer))
+unfolding checks
+read-checks n i buffer inside y h l = path-among n i inside y h l
+
+pub write-checks : (n i : ℕ) (block ranges : List ℕ) → i < 2 ^ n → 1 ≤ n → (w : ℕ) → List·Memᴰ w (pairs n i) → (w ≡ 2 ^ n + i → ⊥)
+    → List·Memᴰ w (checks n (write i block ranges))
+unfolding checks
+write-checks n i block ranges inside deep w m d =
+    ⊎-elim (λ (e : w ≡ 2 ^ n + i). absurd (d e)) (λ (k : List·Memᴰ w (pairsButLeaf n i)). k) (pair-checked n i inside w m deep)
+
+pub check-checks : (n u : ℕ) → IsNode n u → List·Memᴰ u (checks n check)
+unfolding checks
+check-checks n u h = node-among n u h
+
+pub checks-nodes : (a : Anchor) (card : List ℕ) (c : Call) → Passes a card c → AllNodes (a .depth) (checks (a .depth) c)
+unfolding checks
+checks-nodes a card (read i buffer) p w m = path-is-node (a .depth) i (p .inside) w m
+checks-nodes a card (write i block ranges) p w m =
+    pair-node (a .depth) i (p .inside) w (checked-pair (a .depth) i (p .inside) w m (p .sound .deep))
+checks-nodes a card check p w m = among-node (a .depth) w m
 
 -- Answers
 
@@ -235,3 +264,12 @@ module _ (F : List ℕ → List ℕ) (a : Anchor) (card : List ℕ) where
   pub outcome-key : (c : Call) → (outcome F a card c .anchor .key ≡ a .key) × (outcome F a card c .anchor .depth ≡ a .depth)
   unfolding outcome
   outcome-key c = settled-key c (answerOf F a card c)
+
+-- Format
+
+pub format-accept : (n : ℕ) (card : List ℕ) → 1 ≤ n → n ≤ 16 → length card ≡ cardLength n → formatAnswer n card ≡ Whole
+unfolding formatAnswer
+format-accept n card deep shallow full =
+    ap (λ (r : Option Refusal). verdict r none)
+    (pass (depthLimit n) (cardLimit n (length card) ∷ []) (depth-passes n deep shallow)
+    (pass (cardLimit n (length card)) [] (equal-is (length card) (cardLength n) full) no-limits))

@@ -5,7 +5,7 @@ use mathlib.Core.Logic.{_⊎_, inl, inr, ⊎-elim}
 use Prim.Native.Nat.{ℕ, _+_, _<_, _≤_}
 use native.Mathlib.Omega.{arith}
 use lib.ListN.{length, length-append}
-use lib.Seq.{sets, length-sets}
+use lib.Seq.{length-sets}
 use Rattle.words.specs.Bytes.{at, part}
 use Rattle.words.proofs.Cases.{equal-or-not}
 use Rattle.tree.specs.Layout.{size, offset, cardLength, label, tag}
@@ -36,16 +36,19 @@ Leaves n L u j x = ((j < offset n u) ⊎ (offset n u + (size n u + 16) ≤ j)) �
 module _ (F : List ℕ → List ℕ) (F16 : (m : List ℕ) → length (F m) ≡ 16) (n : ℕ) (L : Labels) (sized : Sized n L) where
   -- a card shows u as stamped
   pub record Shows (card : List ℕ) (u : ℕ) : Type 0 where
-    pub label-is : label n card u ≡ L u
     pub tag-is : tag n card u ≡ F (message L u)
+    pub label-is : label n card u ≡ L u
 
   entry-length : (u : ℕ) → IsNode n u → length (L u ++ F (message L u)) ≡ size n u + 16
   entry-length u h = length-append (L u) (F (message L u)) ∙ ap₂ _+_ (sized u h) (F16 (message L u))
 
+  length-stamp : (card : List ℕ) (u : ℕ) → length (stamp F n L card u) ≡ length card
+  length-stamp card u = simp length-sets
+
   pub length-stamped : (us card : List ℕ) → length (stamped F n L us card) ≡ length card
   unfolding stamped
   length-stamped [] card = refl
-  length-stamped (u ∷ us) card = length-stamped us (stamp F n L card u) ∙ length-sets card (offset n u) (L u ++ F (message L u))
+  length-stamped (u ∷ us) card = length-stamped us (stamp F n L card u) ∙ length-stamp card u
 
   module _ (card : List ℕ) (full : length card ≡ cardLength n) (u : ℕ) (h : IsNode n u) where
     room : offset n u + length (L u ++ F (message L u)) ≤ length card
@@ -56,10 +59,10 @@ module _ (F : List ℕ → List ℕ) (F16 : (m : List ℕ) → length (F m) ≡ 
     stamp-shows =
         let c = stamp F n L card u in
         record {
-          label-is = ap (part c (offset n u)) (sym (sized u h)) ∙ part-sets-first (L u) (F (message L u)) card (offset n u) room;
           tag-is =
               ap₂ (λ (k m : ℕ). part c (offset n u + k) m) (sym (sized u h)) (sym (F16 (message L u)))
               ∙ part-sets-second (L u) (F (message L u)) card (offset n u) room;
+          label-is = ap (part c (offset n u)) (sym (sized u h)) ∙ part-sets-first (L u) (F (message L u)) card (offset n u) room;
         }
 
     stamp-keeps : (w : ℕ) → IsNode n w → (w ≡ u → ⊥) → Alike n (stamp F n L card u) card w
@@ -96,7 +99,7 @@ module _ (F : List ℕ → List ℕ) (F16 : (m : List ℕ) → length (F m) ≡ 
   stamped-shows [] nodes card full u h (inr m) = absurd (List·Memᴰ·not-nil m)
   stamped-shows (w ∷ us) nodes card full u h o =
       stamped-shows us (λ v m. nodes v (List·Memᴰ·tail m)) (stamp F n L card w)
-      (length-sets card (offset n w) (L w ++ F (message L w)) ∙ full) u h (go (equal-or-not u w) o)
+      (length-stamp card w ∙ full) u h (go (equal-or-not u w) o)
     where
       hw : IsNode n w
       hw = nodes w (List·Memᴰ·head refl)
@@ -115,7 +118,7 @@ module _ (F : List ℕ → List ℕ) (F16 : (m : List ℕ) → length (F m) ≡ 
   stamped-byte [] nodes card full j x f e = e
   stamped-byte (w ∷ us) nodes card full j x f e =
       stamped-byte us (λ v m. nodes v (List·Memᴰ·tail m)) (stamp F n L card w)
-      (length-sets card (offset n w) (L w ++ F (message L w)) ∙ full) j x (λ v m. f v (List·Memᴰ·tail m))
+      (length-stamp card w ∙ full) j x (λ v m. f v (List·Memᴰ·tail m))
       (stamp-byte card full w (nodes w (List·Memᴰ·head refl)) j x (f w (List·Memᴰ·head refl)) e)
 
   -- any other is shown as before
@@ -126,5 +129,5 @@ module _ (F : List ℕ → List ℕ) (F16 : (m : List ℕ) → length (F m) ≡ 
   stamped-keeps (w ∷ us) nodes card full u h o =
       alike-trans
       (stamped-keeps us (λ v m. nodes v (List·Memᴰ·tail m)) (stamp F n L card w)
-      (length-sets card (offset n w) (L w ++ F (message L w)) ∙ full) u h (λ m. o (List·Memᴰ·tail m)))
+      (length-stamp card w ∙ full) u h (λ m. o (List·Memᴰ·tail m)))
       (stamp-keeps card full w (nodes w (List·Memᴰ·head refl)) u h (λ e. o (List·Memᴰ·head e)))

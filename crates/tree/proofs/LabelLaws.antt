@@ -1,14 +1,14 @@
 -- Labels: those of a card, of a blank card, and of a card after a write.
-use mathlib.Core.Path.{_≡_, refl, sym, ap, ap₂, subst, _∙_}
+use mathlib.Core.Path.{_≡_, refl, sym, ap, ap₂, _∙_}
 use mathlib.Core.Bool.{cond}
 use mathlib.Core.List.{List, [], _∷_, _++_}
 use mathlib.Core.Logic.{_⊎_, inl, inr, ⊎-elim}
-use Prim.Native.Nat.{ℕ, zero, suc, _+_, _*_, _-_, _/_, _%_, _^_, _<_, _≤_}
+use Prim.Native.Nat.{ℕ, zero, suc, _+_, _-_, _/_, _%_, _^_, _<_, _≤_}
 use native.Mathlib.Nat.{eq-or-lt-of-le, pow-suc}
 use native.Mathlib.Omega.{arith}
 use borrow.Author.Tests.{eq-eqb, ne-eqb, lt-ltb, le-ltb}
 use lib.Dec.{eqb}
-use lib.ListN.{length, length-append, length-replicate, replicate}
+use lib.ListN.{length, length-append, replicate}
 use lib.Pow.{pow-mono}
 use Rattle.words.proofs.Cases.{below-or-not, equal-or-not}
 use Rattle.tree.specs.Numbers.{be8}
@@ -17,7 +17,7 @@ use Rattle.tree.specs.Nodes.{pathNode}
 use Rattle.tree.specs.Labels.{Labels, form, message, labels, blankLabels, relabel, raised, newLabels}
 use Rattle.tree.proofs.ByteLaws.{append-inj, length-be}
 use Rattle.tree.proofs.LayoutLaws.{IsNode, inner, leaf, length-label}
-use Rattle.tree.proofs.NodeLaws.{Level, path-root, path-leaf, path-level, path-distinct, On, Off, on-or-off}
+use Rattle.tree.proofs.NodeLaws.{path-root, path-leaf, path-level, path-distinct, On, Off, on-or-off}
 
 -- Messages
 

@@ -1,5 +1,5 @@
 -- Where nodes lie: each on the card, none over another.
-use mathlib.Core.Path.{_≡_, refl, ap, _∙_}
+use mathlib.Core.Path.{_≡_, ap}
 use mathlib.Core.List.{List, List·Memᴰ}
 use mathlib.Core.Logic.{_⊎_, inl, inr, ⊎-elim}
 use Prim.Native.Nat.{ℕ, _+_, _*_, _-_, _^_, _<_, _≤_}
@@ -9,7 +9,7 @@ use borrow.Author.Tests.{lt-ltb, le-ltb}
 use lib.ListN.{length, length-take, length-drop}
 use lib.Pow.{pow-mono}
 use Rattle.words.proofs.Cases.{below-or-not}
-use Rattle.tree.specs.Layout.{size, offset, cardLength, label, tag}
+use Rattle.tree.specs.Layout.{size, offset, cardLength, label}
 
 -- a node that has an entry on a card of depth n
 pub record IsNode (n u : ℕ) : Type 0 where

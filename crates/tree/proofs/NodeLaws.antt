@@ -2,7 +2,7 @@
 use mathlib.Core.Path.{_≡_, refl, sym, ap, subst, _∙_}
 use mathlib.Core.List.{List, [], _∷_, _++_, List·Memᴰ, List·Memᴰ·head, List·Memᴰ·tail, List·Memᴰ·append-cases, List·Memᴰ·cases-cons, List·Memᴰ·not-nil, List·Memᴰ·eq-of-singleton, Memᴰ·append-left, Memᴰ·append-right}
 use mathlib.Core.Logic.{_⊎_, inl, inr, ⊎-elim}
-use Prim.Native.Nat.{ℕ, zero, suc, _+_, _*_, _-_, _/_, _%_, _^_, _<_, _≤_}
+use Prim.Native.Nat.{ℕ, zero, suc, _+_, _*_, _-_, _/_, _^_, _<_, _≤_}
 use native.Mathlib.Nat.{eq-or-lt-of-le, one-mul, pow-suc, sub-self, sub-zero, div-one}
 use native.Mathlib.Omega.{arith}
 use lib.Arith.{digits-div}
@@ -167,6 +167,14 @@ module _ (n i : ℕ) (inside : i < 2 ^ n) where
       is-among n (pair n i) w
       (record { level = suc (c .level); low = omega arith; high = c .high; here = child-among w c })
 
+  pub path-pairs : (y : ℕ) → 1 ≤ y → y ≤ n → List·Memᴰ (pathNode n i y) (pairs n i)
+  unfolding pairs
+  path-pairs y h l =
+      is-among n (pair n i) (pathNode n i y) (record { level = y; low = h; high = l; here = List·Memᴰ·head refl })
+
+  pub inner-not-leaf : (y : ℕ) → y < n → pathNode n i y ≡ 2 ^ n + i → ⊥
+  inner-not-leaf y h e = let p = path-distinct y n (omega arith) (omega arith) (e ∙ sym path-leaf) in omega arith
+
   pub child-node : (w : ℕ) → Child w → IsNode n w
   child-node w c =
       let v = path-level (c .level) (omega (arith, c .high)) in
@@ -206,22 +214,7 @@ module _ (n i : ℕ) (inside : i < 2 ^ n) where
       let q = path-distinct (c .level) y (omega (arith, c .high)) (omega arith) (sym (c .is) ∙ p) in
       d (e ∙ ap (λ (z : ℕ). pathNode n i (suc z)) (sym q))
 
-  -- the nodes that a write checks are among its pairs, and all of them but the leaf are
-  pub checked-pair : (w : ℕ) → List·Memᴰ w (pairsButLeaf n i) → 1 ≤ n → List·Memᴰ w (pairs n i)
-  unfolding pairsButLeaf
-  checked-pair w m hn = child-pairs w (go (List·Memᴰ·append-cases (upTo (n - 1) (pair n i)) m))
-    where
-      go : List·Memᴰ w (upTo (n - 1) (pair n i)) ⊎ List·Memᴰ w (sibling (pathNode n i n) ∷ []) → Child w
-      go (inl a) = child-of (n - 1) w (omega arith) a
-      go (inr b) =
-          let e : suc (n - 1) ≡ n = omega arith in
-          record {
-            level = n - 1;
-            high = omega arith;
-            is = ap (λ (u : ℕ). u / 2) (List·Memᴰ·eq-of-singleton b) ∙ sibling-half (pathNode n i n)
-                ∙ ap (λ (k : ℕ). pathNode n i k / 2) (sym e) ∙ path-parent (n - 1) (omega arith);
-          }
-
+  -- a write checks all of its pairs but the leaf, and nothing else
   pub pair-checked : (w : ℕ) → List·Memᴰ w (pairs n i) → 1 ≤ n → (w ≡ 2 ^ n + i) ⊎ List·Memᴰ w (pairsButLeaf n i)
   unfolding pairsButLeaf
   pair-checked w m hn = go (eq-or-lt-of-le (c .high)) (List·Memᴰ·cases-cons (child-among w c))
@@ -240,6 +233,21 @@ module _ (n i : ℕ) (inside : i < 2 ^ n) where
           inr (Memᴰ·append-left (sibling (pathNode n i n) ∷ [])
           (is-among (n - 1) (pair n i) w
           (record { level = suc (c .level); low = omega arith; high = omega arith; here = child-among w c })))
+
+  pub checked-pair : (w : ℕ) → List·Memᴰ w (pairsButLeaf n i) → 1 ≤ n → List·Memᴰ w (pairs n i)
+  unfolding pairsButLeaf
+  checked-pair w m hn = child-pairs w (go (List·Memᴰ·append-cases (upTo (n - 1) (pair n i)) m))
+    where
+      go : List·Memᴰ w (upTo (n - 1) (pair n i)) ⊎ List·Memᴰ w (sibling (pathNode n i n) ∷ []) → Child w
+      go (inl a) = child-of (n - 1) w (omega arith) a
+      go (inr b) =
+          let e : suc (n - 1) ≡ n = omega arith in
+          record {
+            level = n - 1;
+            high = omega arith;
+            is = ap (λ (u : ℕ). u / 2) (List·Memᴰ·eq-of-singleton b) ∙ sibling-half (pathNode n i n)
+                ∙ ap (λ (k : ℕ). pathNode n i k / 2) (sym e) ∙ path-parent (n - 1) (omega arith);
+          }
 
   -- the nodes that a read checks
   pub path-among : (y : ℕ) → 1 ≤ y → y ≤ n → List·Memᴰ (pathNode n i y) (path n i)

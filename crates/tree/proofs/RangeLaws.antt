@@ -1,9 +1,8 @@
 -- The ranges that a write changes: how many, how long, in order and on the card; and nothing changes outside them.
-use mathlib.Core.Path.{_≡_, refl, sym, ap, ap₂, subst, _∙_}
-use mathlib.Core.Bool.{cond}
-use mathlib.Core.List.{List, [], _∷_, _++_, append-assoc, List·Memᴰ, List·Memᴰ·head, List·Memᴰ·tail, List·Memᴰ·cases-cons, List·Memᴰ·not-nil, Memᴰ·append-left, Memᴰ·append-right}
+use mathlib.Core.Path.{_≡_, refl, sym, ap, subst, _∙_}
+use mathlib.Core.List.{List, [], _∷_, _++_, List·Memᴰ, List·Memᴰ·head, List·Memᴰ·tail, List·Memᴰ·cases-cons, List·Memᴰ·not-nil, Memᴰ·append-left, Memᴰ·append-right}
 use mathlib.Core.Logic.{_⊎_, inl, inr, ⊎-elim}
-use Prim.Native.Nat.{ℕ, zero, suc, _+_, _*_, _-_, _/_, _%_, _^_, _<_, _≤_}
+use Prim.Native.Nat.{ℕ, zero, suc, _+_, _*_, _-_, _/_, _^_, _<_, _≤_}
 use native.Mathlib.Nat.{eq-or-lt-of-le, pow-suc}
 use native.Mathlib.Omega.{arith}
 use borrow.Author.Tests.{eq-eqb, ne-eqb}
@@ -18,8 +17,8 @@ use Rattle.tree.specs.Labels.{Labels, labels, newLabels}
 use Rattle.tree.specs.Card.{written}
 use Rattle.tree.specs.Ranges.{Range, rangeOf, rangePair, rangesTo, rangesOf}
 use Rattle.tree.proofs.ByteLaws.{append-inj}
-use Rattle.tree.proofs.LayoutLaws.{IsNode, inner, leaf, entry-before, offset-mono, card-end}
-use Rattle.tree.proofs.NodeLaws.{Level, path-leaf, path-level, path-parent, Child, pairs-child, child-node, child-off, pair-node}
+use Rattle.tree.proofs.LayoutLaws.{inner, leaf, entry-before, offset-mono, card-end}
+use Rattle.tree.proofs.NodeLaws.{path-leaf, path-level, path-parent, Child, pairs-child, child-node, child-off, pair-node}
 use Rattle.tree.proofs.LabelLaws.{labels-below, labels-sized, new-off, new-sized}
 use Rattle.tree.proofs.CardLaws.{Puts, Leaves, stamped-byte}
 

@@ -12,7 +12,7 @@ use Rattle.cipher.proofs.Tables.{sbox-at}
 use Rattle.cipher.proofs.Examples.{sbox-entries}
 use Rattle.cmac.specs.Cmac.{double}
 use Rattle.cmac.proofs.Examples.{doubling-row}
-use Rattle.tree.specs.Numbers.{be, be8}
+use Rattle.tree.specs.Numbers.{be8}
 use Rattle.tree.specs.Layout.{size, offset, cardLength, label}
 use Rattle.tree.specs.Nodes.{pathNode}
 use Rattle.tree.specs.Labels.{labels, raised, newLabels}

@@ -1,13 +1,12 @@
 -- The cards that format and write leave: their labels, their messages and their tags.
-use mathlib.Core.Path.{_≡_, refl, sym, ap, subst, _∙_}
-use mathlib.Core.List.{List, List·Memᴰ}
-use mathlib.Core.Logic.{_⊎_, inl, inr, ⊎-elim}
-use Prim.Native.Nat.{ℕ, zero, suc, _+_, _*_, _/_, _^_, _<_, _≤_}
-use native.Mathlib.Nat.{eq-or-lt-of-le}
+use mathlib.Core.Path.{_≡_, sym, ap, subst, _∙_}
+use mathlib.Core.List.{List}
+use mathlib.Core.Logic.{_⊎_, inl, inr}
+use Prim.Native.Nat.{ℕ, _+_, _/_, _^_, _<_, _≤_}
 use native.Mathlib.Omega.{arith}
 use lib.ListN.{length}
 use Rattle.tree.specs.Layout.{cardLength, label, tag}
-use Rattle.tree.specs.Nodes.{pathNode, pairs, allNodes}
+use Rattle.tree.specs.Nodes.{pairs, allNodes}
 use Rattle.tree.specs.Labels.{Labels, message, labels, blankLabels, newLabels}
 use Rattle.tree.specs.Card.{blanked, written}
 use Rattle.tree.proofs.LayoutLaws.{IsNode}

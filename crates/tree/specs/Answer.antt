@@ -1,7 +1,6 @@
 -- The papers' number of each answer, and the node that it names.
 use Prim.Native.Nat.{ℕ}
 use mathlib.Core.Bool.{Bool, true, false}
-use Rattle.tree.specs.declared.Node.{Node}
 use Rattle.tree.specs.declared.Refusal.{Refusal}
 use Rattle.tree.specs.declared.Refusal.the-variants.{Depth, RootNonce, CardLength, BlockNumber, BlockLength, RangeLength, NoncesSpent}
 use Rattle.tree.specs.declared.Answer.{Answer}

@@ -47,6 +47,10 @@ verdict (some r) w = Refused r
 verdict none (some u) = Wrong (record { 0 = u })
 verdict none none = Whole
 
+-- format tests these limits, and checks no tag
+unfoldable pub formatAnswer : ℕ → List ℕ → Answer
+formatAnswer n card = verdict (firstFailing (depthLimit n ∷ cardLimit n (length card) ∷ [])) none
+
 pub record Outcome : Type 0 where
   pub answer : Answer
   pub anchor : Anchor
@@ -84,9 +88,6 @@ module _ (F : List ℕ → List ℕ) where
   outcome a card c = settled (answerOf a card c) a card c
 
   -- Format makes the anchor of a key and a depth. Refused, it leaves the card as it was.
-  unfoldable pub formatAnswer : ℕ → List ℕ → Answer
-  formatAnswer n card = verdict (firstFailing (depthLimit n ∷ cardLimit n (length card) ∷ [])) none
-
   abbrev pub formatCard : Answer → ℕ → List ℕ → List ℕ
   formatCard Whole n card = blanked F n 0 card
   formatCard (Wrong u) n card = card

@@ -1,6 +1,5 @@
-use mathlib.Core.Path.{refl, sym, _∙_}
+use mathlib.Core.Path.{refl, _∙_}
 use denote.Ref.{now}
-use Rattle.cipher.specs.Tables.{IsSBox}
 use Rattle.probe.proofs.Laws.{copied}
 use borrow.Author.Needs.{needs}
 use Rattle.probe_cipher.proofs.probe_sbox.Statement.{statement}

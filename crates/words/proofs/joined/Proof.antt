@@ -1,5 +1,5 @@
-use mathlib.Core.Path.{ap₂, _∙_}
-use mathlib.Core.List.{_++_, append-assoc}
+use mathlib.Core.Path.{ap₂}
+use mathlib.Core.List.{_++_}
 use borrow.Author.Needs.{needs}
 use Rattle.words.proofs.joined.Statement.{statement}
 use Rattle.words.proofs.joined.Tie as tie

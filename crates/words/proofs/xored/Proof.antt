@@ -2,7 +2,6 @@ use mathlib.Core.Path.{ap₂}
 use mathlib.Core.List.{_++_}
 use Rattle.words.specs.Bytes.{xorBlock}
 use Rattle.words.proofs.Bytes.{bytes-xor}
-use borrow.Author.Needs.{needs}
 use Rattle.words.proofs.xored.Statement.{statement}
 use Rattle.words.proofs.xored.Tie as tie
 

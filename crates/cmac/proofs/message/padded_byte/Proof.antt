@@ -1,6 +1,5 @@
 use mathlib.Core.Path.{sym}
 use denote.Ref.{now}
-use native.Mathlib.Omega.{arith}
 use Rattle.cmac.proofs.Padding.{padded-inside, padded-end, padded-past}
 use borrow.Author.Needs.{needs}
 use Rattle.cmac.proofs.message.padded_byte.Statement.{statement}

@@ -1,5 +1,4 @@
 use borrow.Author.Tests.{lt-ltb, le-ltb}
-use borrow.Author.Needs.{needs}
 use Rattle.cmac.proofs.subkey.carry.Statement.{statement}
 use Rattle.cmac.proofs.subkey.carry.Tie as tie
 

@@ -1,6 +1,5 @@
 use mathlib.Core.Path.{ap, sym, _∙_}
 use denote.Ref.{now}
-use native.Mathlib.Omega.{arith}
 use Rattle.cipher.specs.Cipher.{encryptOf}
 use Rattle.probe.specs.Told.{repeated}
 use Rattle.probe.proofs.Laws.{copied}

@@ -1,6 +1,5 @@
-use mathlib.Core.Path.{sym, ap, _∙_}
+use mathlib.Core.Path.{ap, _∙_}
 use denote.Ref.{now}
-use native.Mathlib.Omega.{arith}
 use Rattle.cipher.specs.KeyExpansion.{keyExpansion}
 use Rattle.probe.proofs.Laws.{copied}
 use borrow.Author.Needs.{needs}

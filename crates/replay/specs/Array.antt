@@ -1,0 +1,27 @@
+-- The plain array. It is told each call's kind, block number and new block, and whether the call counts; it sees neither card nor anchor.
+use Prim.Native.Nat.{ℕ, _^_}
+use mathlib.Core.Bool.{Bool, cond}
+use mathlib.Core.List.{List, []}
+use lib.ListN.{getD, set, replicate}
+
+pub data Told : Type 0 where
+  read : (i : ℕ) → Told
+  write : (i : ℕ) (block : List ℕ) → Told
+  check : Told
+
+abbrev pub Array : Type 0
+Array = List (List ℕ)
+
+-- 2^n blocks, all zero, as after a format
+unfoldable pub zeroed : ℕ → Array
+zeroed n = replicate (2 ^ n) (replicate 64 0)
+
+-- block i
+abbrev pub blockAt : Array → ℕ → List ℕ
+blockAt a i = getD a i []
+
+-- the array after a call: writes that count move it, and nothing else does
+unfoldable pub moved : Array → Told → Bool → Array
+moved a (read i) counts = a
+moved a (write i b) counts = cond counts (set a i b) a
+moved a check counts = a

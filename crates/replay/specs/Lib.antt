@@ -1,0 +1,4 @@
+-- Demand 3: the plain array, a list of calls and what becomes known along it, and the claim.
+pub mod Array
+pub mod Run
+pub mod Claim

@@ -1,0 +1,78 @@
+-- A list of calls after a format, and what becomes known along it, for any function F that makes a tag of a message.
+use Prim.Native.Nat.{ℕ, _+_}
+use mathlib.Core.Bool.{Bool, true, false, cond, _&&_}
+use mathlib.Core.List.{List, [], _∷_, _++_, map}
+use Rattle.tree.specs.Nodes.{pairs, allNodes}
+use Rattle.tree.specs.Labels.{message, labels}
+use Rattle.tree.specs.Answer.{isWhole}
+use Rattle.tree.specs.Calls.{Call, read, write, check, Outcome, outcome, format}
+use Rattle.tree.specs.declared.Anchor.{Anchor}
+use Rattle.replay.specs.Array
+use Rattle.replay.specs.Array.{Told, Array, zeroed, moved}
+
+-- a call, and the card that it is given: any bytes, of any number
+pub record Step : Type 0 where
+  pub card : List ℕ
+  pub call : Call
+
+-- what the array is told of a call
+abbrev pub told : Call → Told
+told (read i buffer) = Array.read i
+told (write i block ranges) = Array.write i block
+told check = Array.check
+
+abbrev pub isWrite : Call → Bool
+isWrite (read i buffer) = false
+isWrite (write i block ranges) = true
+isWrite check = false
+
+-- the nodes that an accepted call tags
+abbrev pub tags : ℕ → Call → List ℕ
+tags n (read i buffer) = []
+tags n (write i block ranges) = pairs n i
+tags n check = []
+
+-- the messages of nodes, built from a card and an anchor
+abbrev pub messages : Anchor → List ℕ → List ℕ → List (List ℕ)
+messages a card us = map (message (labels (a .depth) (a .root .0) card)) us
+
+pub record State : Type 0 where
+  -- as the last call returned it
+  pub anchor : Anchor
+  pub array : Array
+  -- every message tagged so far (document 01: marked messages)
+  pub tagged : List (List ℕ)
+  -- the card as the format or the last accepted write left it
+  pub left : List ℕ
+
+module _ (F : List ℕ → List ℕ) where
+  -- after the format
+  unfoldable pub start : List ℕ → ℕ → List ℕ → State
+  start key n card =
+      let o = format F key n card in
+      record { anchor = o .anchor; array = zeroed n; tagged = messages (o .anchor) (o .card) (allNodes n); left = o .card }
+
+  -- after a call with the outcome o
+  abbrev pub moves : State → Call → Outcome → State
+  moves s c o =
+      let accepted = isWhole (o .answer) in
+      record {
+        anchor = o .anchor;
+        array = moved (s .array) (told c) accepted;
+        tagged = cond accepted (messages (o .anchor) (o .card) (tags (o .anchor .depth) c)) [] ++ s .tagged;
+        left = cond (accepted && isWrite c) (o .card) (s .left);
+      }
+
+  unfoldable pub next : State → Step → State
+  next s x = moves s (x .call) (outcome F (s .anchor) (x .card) (x .call))
+
+  -- after the calls of a list
+  unfoldable pub after : State → List Step → State
+  after s [] = s
+  after s (x ∷ xs) = after (next s x) xs
+
+  -- how many of them are accepted writes
+  unfoldable pub writes : State → List Step → ℕ
+  writes s [] = 0
+  writes s (x ∷ xs) =
+      cond (isWhole (outcome F (s .anchor) (x .card) (x .call) .answer) && isWrite (x .call)) 1 0 + writes (next s x) xs
