@@ -66,6 +66,15 @@ positive zero = omega arith
 positive (suc n) = omega (arith, positive n, pow-suc 256 n)
 
 -- a remainder keeps the bytes below it
+pub bytes-inj : (n v w : ℕ) → v < 256 ^ n → w < 256 ^ n → bytes n v ≡ bytes n w → v ≡ w
+bytes-inj zero v w hv hw e = omega arith
+bytes-inj (suc n) v w hv hw e =
+    let p = pow-suc 256 n in
+    let low : v % 256 ≡ w % 256 = cc e in
+    let rest : bytes n (v / 256) ≡ bytes n (w / 256) = cc e in
+    let high = bytes-inj n (v / 256) (w / 256) (omega arith) (omega arith) rest in
+    omega arith
+
 pub bytes-mod : (n w : ℕ) → bytes n (w % 256 ^ n) ≡ bytes n w
 bytes-mod zero w = refl
 bytes-mod (suc n) w =

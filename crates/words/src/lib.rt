@@ -4,7 +4,7 @@ ghost use mathlib.Core.List.{[], _∷_, _++_};
 ghost use Prim.Native.Nat.{_+_, _≤_, _<_};
 ghost use lib.ListN.{length};
 ghost use lib.Seq.{sets};
-ghost use Rattle.words.specs.Bytes.{at, part, xorBlock};
+ghost use Rattle.words.specs.Bytes.{at, part, same, xorBlock};
 ghost use Rattle.words.specs.Words.{bytes, stateOf, blockOf};
 
 // A block of 16 bytes: its first eight and its last eight, each in a word.
@@ -68,7 +68,7 @@ pub fn word_at(s: &[u8], o: usize) -> u32
     word_of(s[o], s[o + 1], s[o + 2], s[o + 3])
 }
 
-fn double_word_at(s: &[u8], o: usize) -> u64
+pub fn double_word_at(s: &[u8], o: usize) -> u64
     requires { ⌜ o + 8 ≤ length (now s) ⌝ }
     ensures { λ r. ⌜ bytes 8 r ≡ part (now (s .entry)) o 8 ⌝ }
 {
@@ -153,8 +153,15 @@ pub fn bytes_of(b: Block) -> [u8; 16]
     ]
 }
 
-// Puts a word or a block into s from o.
-fn put_word(s: &mut [u8], o: usize, v: u32)
+// Whether two blocks have the same bytes.
+pub fn equal(p: Block, q: Block) -> bool
+    ensures { λ r. ⌜ r ≡ same (blockOf p) (blockOf q) ⌝ }
+{
+    p.head == q.head && p.tail == q.tail
+}
+
+// Puts a word of four or eight bytes, a block, or the bytes x into s from o.
+pub fn put_word(s: &mut [u8], o: usize, v: u32)
     requires { ⌜ o + 4 ≤ length (now s) ⌝ }
     ensures { λ _. ⌜ now (s .exit) ≡ sets (now (s .entry)) o (bytes 4 v) ⌝ }
 {
@@ -162,6 +169,14 @@ fn put_word(s: &mut [u8], o: usize, v: u32)
     s[o + 1] = byte1(v) as u8;
     s[o + 2] = byte2(v) as u8;
     s[o + 3] = byte3(v) as u8;
+}
+
+pub fn put_double_word(s: &mut [u8], o: usize, v: u64)
+    requires { ⌜ o + 8 ≤ length (now s) ⌝ }
+    ensures { λ _. ⌜ now (s .exit) ≡ sets (now (s .entry)) o (bytes 8 v) ⌝ }
+{
+    put_word(s, o, (v % 4294967296) as u32);
+    put_word(s, o + 4, (v / 4294967296) as u32);
 }
 
 pub fn put_block(s: &mut [u8], o: usize, b: Block)
@@ -173,4 +188,15 @@ pub fn put_block(s: &mut [u8], o: usize, b: Block)
     put_word(s, o + 4, k.c1);
     put_word(s, o + 8, k.c2);
     put_word(s, o + 12, k.c3);
+}
+
+pub fn put(s: &mut [u8], o: usize, x: &[u8])
+    requires { ⌜ o + length (now x) ≤ length (now s) ⌝ }
+    ensures { λ _. ⌜ now (s .exit) ≡ sets (now (s .entry)) o (now (x .entry)) ⌝ }
+{
+    let mut i: usize = 0;
+    while i < x.len() {
+        s[o + i] = x[i];
+        i += 1;
+    }
 }
