@@ -1,5 +1,5 @@
 -- What a context gives, and what those above need to know of a tag.
-use mathlib.Core.Path.{_≡_, refl, ap, ap₂, _∙_}
+use mathlib.Core.Path.{_≡_, refl, ap, ap₂, fun-ext, _∙_}
 use mathlib.Core.Bool.{Bool, true, false, cond}
 use mathlib.Core.List.{List, _++_}
 use Prim.Native.Nat.{ℕ, _+_}
@@ -10,14 +10,19 @@ use lib.Seq.{take-at, drop-at, take-all}
 use Rattle.words.specs.Bytes.{at, part, xorBlock}
 use Rattle.cipher.specs.Cipher.{cipherOf, encryptOf}
 use Rattle.cipher.specs.KeyExpansion.{keyExpansion}
-use Rattle.cipher.proofs.Rounds.{cipher-of-key, length-encrypt}
+use Rattle.cipher.proofs.Rounds.{cipher-of-key, length-cipher, length-encrypt}
 use Rattle.cmac.specs.Cmac.{zeros, shifted, rb, double, subkey1, subkey2, blocks, complete, lastBlock, chain, cmacWith, cmacBy, cmacOf}
-use Rattle.cmac.specs.Context.{subkeysOf, tagUnder}
+use Rattle.cmac.specs.Context.{subkeysOf, ContextOf, tagUnder}
+use Rattle.cmac.specs.declared.Context.{Context}
 
 -- a tag has 16 bytes, whatever the key and the message hold
 pub length-cmac : (key m : List ℕ) → length (cmacOf key m) ≡ 16
 unfolding cmacOf cmacBy cmacWith
 length-cmac key m = length-encrypt key _
+
+pub length-tag-under : (w k m : List ℕ) → length (tagUnder w k m) ≡ 16
+unfolding tagUnder cmacWith
+length-tag-under w k m = length-cipher w _
 
 -- with zeros for the subkeys, the tag of the zero block is its cipher
 pub tag-of-zeros : (w : List ℕ) → tagUnder w (replicate 32 0) (replicate 16 0) ≡ cipherOf w zeros
@@ -47,6 +52,9 @@ tag-of-context key m =
     let second : part (k1 ++ k2) 16 16 ≡ k2 = ap (take 16) (drop-at k1 k2 16 n1) ∙ take-all 16 k2 (le-of-eq (length-double k1)) in
     ap (λ (e : List ℕ → List ℕ). cmacWith e (part (k1 ++ k2) 0 16) (part (k1 ++ k2) 16 16) m) (cipher-of-key key)
     ∙ ap₂ (λ (a b : List ℕ). cmacWith (encryptOf key) a b m) first second
+
+pub tags-of-context : (key : List ℕ) (x : Context) → ContextOf key x → tagUnder (x .schedule) (x .subkeys) ≡ cmacOf key
+tags-of-context key x h = ap₂ tagUnder (h .schedule) (h .subkeys) ∙ fun-ext (tag-of-context key)
 
 pub length-subkeys : (key : List ℕ) → length (subkeysOf key) ≡ 32
 unfolding subkeysOf subkey2

@@ -6,11 +6,10 @@ use Prim.Native.Nat.{ℕ, suc, _+_, _-_, _/_, _%_, _^_, _<_}
 use native.Mathlib.Omega.{arith}
 use lib.ListN.{length}
 use Rattle.tree.specs.Numbers.{be8}
-use Rattle.tree.specs.Layout.{size}
+use Rattle.tree.specs.Layout.{IsNode, size}
 use Rattle.tree.specs.Nodes.{pathNode}
 use Rattle.tree.specs.Labels.{Labels, form, blankLabels, newLabels}
 use Rattle.tree.proofs.ByteLaws.{be-inj}
-use Rattle.tree.proofs.LayoutLaws.{IsNode}
 use Rattle.tree.proofs.NodeLaws.{Off, Child, child-or-off, off-child}
 use Rattle.tree.proofs.LabelLaws.{form-parts, Sized, blank-inner, blank-sized, blank-same, new-path, new-off, new-sized}
 use Rattle.replay.proofs.Core.{Frame, Nonced, AllNonced, Keeps, Event}

@@ -11,11 +11,10 @@ use lib.Pow.{pow-mono}
 use Rattle.words.specs.Bytes.{same}
 use Rattle.words.proofs.Cases.{equal-or-not}
 use Rattle.tree.specs.Numbers.{be8}
-use Rattle.tree.specs.Layout.{cardLength, label}
+use Rattle.tree.specs.Layout.{IsNode, cardLength, label}
 use Rattle.tree.specs.Nodes.{pathNode, path, pairs, allNodes}
 use Rattle.tree.specs.Labels.{Labels, message, labels, blankLabels, newLabels}
 use Rattle.tree.specs.Card.{blanked, written}
-use Rattle.tree.proofs.LayoutLaws.{IsNode}
 use Rattle.tree.proofs.NodeLaws.{path-root, path-leaf, path-parent, path-node, Off, pairs-child, child-node, path-pairs, inner-not-leaf, among-node}
 use Rattle.tree.proofs.LabelLaws.{Sized, message-same, labels-root, labels-below, labels-sized, blank-root, blank-leaf, blank-sized, new-root, new-same, new-sized, new-block}
 use Rattle.tree.proofs.WriteLaws.{blanked-message, written-message}

@@ -1,13 +1,14 @@
 -- Byte strings: numbers as bytes, parts, and parts after a store.
 use mathlib.Core.Path.{_≡_, refl, sym, ap, _∙_}
-use mathlib.Core.List.{List, [], _∷_, _++_, append-assoc}
+use mathlib.Core.List.{List, [], _∷_, _++_, reverse, append-assoc, append-nil}
 use mathlib.Core.Logic.{_⊎_, inl, inr, ⊎-elim}
 use Prim.Native.Nat.{ℕ, zero, suc, _+_, _/_, _%_, _^_, _<_, _≤_}
 use native.Mathlib.Nat.{pow-suc}
 use native.Mathlib.Omega.{arith}
-use lib.ListN.{length, take, drop, set, length-append, length-take, length-drop}
+use lib.ListN.{length, take, drop, set, length-append, length-take, length-drop, drop-of-length-le}
 use lib.Seq.{take-append-seam, drop-append-seam, take-at, drop-at, getD-take, getD-drop, getD-set-other, ext-getD, drop-drop, length-take-le, sets, length-sets, sets-eq}
 use Rattle.words.specs.Bytes.{at, part}
+use Rattle.words.proofs.Bytes.{bytes-halves}
 use Rattle.tree.specs.Numbers.{be}
 
 pub append-inj : {A : Type 0} (a b c d : List A) → length a ≡ length c → a ++ b ≡ c ++ d → (a ≡ c) × (b ≡ d)
@@ -31,6 +32,11 @@ be-inj (suc k) x y hx hy e =
     let high : x / 256 ≡ y / 256 = be-inj k (x / 256) (y / 256) (omega arith) (omega arith) (q .0) in
     let low : x % 256 ≡ y % 256 = cc (q .1) in
     omega arith
+
+-- the two halves of a number of eight bytes
+pub be-halves : (x : ℕ) → be 4 (x / 4294967296) ++ be 4 (x % 4294967296) ≡ be 8 x
+unfolding be
+be-halves x = ap reverse (bytes-halves x)
 
 -- a store changes nothing beside it
 pub at-sets-apart : (x c : List ℕ) (o j : ℕ) → (j < o) ⊎ (o + length x ≤ j) → at (sets c o x) j ≡ at c j
@@ -75,3 +81,9 @@ module _ (x y c : List ℕ) (o : ℕ) (fits : o + length (x ++ y) ≤ length c) 
   at-sets-first k h =
       sym (getD-take (length x) (drop o (sets c o (x ++ y))) k 0 h ∙ getD-drop o (sets c o (x ++ y)) k 0)
       ∙ ap (λ (z : List ℕ). at z k) part-sets-first
+
+-- a string stored over one of its length
+pub sets-whole : (x c : List ℕ) → length c ≡ length x → sets c 0 x ≡ x
+sets-whole x c h =
+    let e : length c ≤ 0 + length x = omega arith in
+    sets-eq x c 0 (omega arith) ∙ ap (_++_ x) (drop-of-length-le c e) ∙ append-nil x

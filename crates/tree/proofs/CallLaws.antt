@@ -9,7 +9,7 @@ use native.Mathlib.Omega.{arith}
 use borrow.Author.Tests.{ltb-false, leb-false, eqb-true, eqb-false, not-false, eq-eqb, ne-eqb, le-ltb, lt-leb}
 use lib.Dec.{eqb, ltb}
 use lib.ListN.{length}
-use Rattle.tree.specs.Layout.{cardLength, tag}
+use Rattle.tree.specs.Layout.{IsNode, IsCard, cardLength, tag}
 use Rattle.tree.specs.Nodes.{pathNode, pairs, pairsButLeaf}
 use Rattle.tree.specs.Labels.{message, labels}
 use Rattle.tree.specs.Card.{right, firstWrong}
@@ -23,7 +23,7 @@ use Rattle.tree.specs.declared.Answer.the-variants.{Whole, Wrong, Refuse
 use Rattle.words.specs.Bytes.{same}
 use Rattle.words.proofs.Cases.{below-or-not}
 use Rattle.words.proofs.Same.{same-is, same-refl}
-use Rattle.tree.proofs.LayoutLaws.{IsNode, AllNodes}
+use Rattle.tree.proofs.LayoutLaws.{AllNodes}
 use Rattle.tree.proofs.NodeLaws.{pair-checked, checked-pair, pair-node, path-among, path-is-node, node-among, among-node}
 use Rattle.tree.proofs.WriteLaws.{Right}
 
@@ -42,7 +42,7 @@ pass : (l : Limit) (ls : List Limit) → l .fails ≡ false → firstFailing ls 
 unfolding firstFailing
 pass l ls f e = rw f e
 
-no-limits : firstFailing [] ≡ none
+pub no-limits : firstFailing [] ≡ none
 unfolding firstFailing
 no-limits = refl
 
@@ -54,7 +54,7 @@ or-not : (a b : Bool) → a ≡ false → b ≡ false → (a || b) ≡ false
 or-not true b p q = p
 or-not false b p q = q
 
-is-equal : (m n : ℕ) → not (eqb m n) ≡ false → m ≡ n
+pub is-equal : (m n : ℕ) → not (eqb m n) ≡ false → m ≡ n
 is-equal m n e = eqb-true m n (not-false (eqb m n) e)
 
 equal-is : (m n : ℕ) → m ≡ n → not (eqb m n) ≡ false
@@ -66,6 +66,9 @@ pub record Sound (n t : ℕ) (card : List ℕ) : Type 0 where
   pub shallow : n ≤ 16
   pub multiple : t % n ≡ 0
   pub full : length card ≡ cardLength n
+
+pub sound-card : {n t : ℕ} {card : List ℕ} → Sound n t card → IsCard n card
+sound-card s = record { deep = s .deep; shallow = s .shallow; full = s .full }
 
 -- and those of a call
 pub record Reads (n t : ℕ) (card : List ℕ) (i : ℕ) (buffer : List ℕ) : Type 0 where
@@ -88,6 +91,13 @@ Passes a card check = Sound (a .depth) (a .root .0) card
 depth-passes : (n : ℕ) → 1 ≤ n → n ≤ 16 → depthLimit n .fails ≡ false
 depth-passes n deep shallow = or-not (eqb n 0) (ltb 16 n) (ne-eqb n 0 (λ (z : n ≡ 0). omega arith)) (le-ltb 16 n shallow)
 
+pub depth-in : (n : ℕ) → depthLimit n .fails ≡ false → (1 ≤ n) × (n ≤ 16)
+depth-in n e =
+    let d = not-or (eqb n 0) (ltb 16 n) e in (
+      ⊎-elim (λ (z : n < 1). absurd (eqb-false n 0 (d .0) (omega arith))) (λ (g : 1 ≤ n). g) (below-or-not n 1),
+      ltb-false 16 n (d .1),
+    )
+
 module _ (n t : ℕ) (card : List ℕ) where
   abbrev first : List Limit → List Limit
   first ls = depthLimit n ∷ nonceLimit n t ∷ cardLimit n (length card) ∷ ls
@@ -97,12 +107,10 @@ module _ (n t : ℕ) (card : List ℕ) where
       let p = passes _ _ e in
       let q = passes _ _ (p .1) in
       let r = passes _ _ (q .1) in
-      let d = not-or (eqb n 0) (ltb 16 n) (p .0) in
-      let deep : 1 ≤ n =
-      ⊎-elim (λ (z : n < 1). absurd (eqb-false n 0 (d .0) (omega arith))) (λ (g : 1 ≤ n). g) (below-or-not n 1) in (
+      let d = depth-in n (p .0) in (
         record {
-          deep = deep;
-          shallow = ltb-false 16 n (d .1);
+          deep = d .0;
+          shallow = d .1;
           multiple = is-equal (t % n) 0 (q .0);
           full = is-equal (length card) (cardLength n) (r .0);
         },

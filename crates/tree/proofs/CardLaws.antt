@@ -8,11 +8,11 @@ use lib.ListN.{length, length-append}
 use lib.Seq.{length-sets}
 use Rattle.words.specs.Bytes.{at, part}
 use Rattle.words.proofs.Cases.{equal-or-not}
-use Rattle.tree.specs.Layout.{size, offset, cardLength, label, tag}
+use Rattle.tree.specs.Layout.{IsNode, size, offset, cardLength, label, tag}
 use Rattle.tree.specs.Labels.{Labels, message}
 use Rattle.tree.specs.Card.{stamp, stamped}
 use Rattle.tree.proofs.ByteLaws.{at-sets-apart, at-sets-first, part-sets-apart, part-sets-first, part-sets-second}
-use Rattle.tree.proofs.LayoutLaws.{IsNode, AllNodes, entry-fits, entry-apart}
+use Rattle.tree.proofs.LayoutLaws.{AllNodes, entry-fits, entry-apart}
 use Rattle.tree.proofs.LabelLaws.{Sized}
 
 -- two cards show the same entry of u

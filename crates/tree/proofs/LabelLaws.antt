@@ -4,19 +4,23 @@ use mathlib.Core.Bool.{cond}
 use mathlib.Core.List.{List, [], _∷_, _++_}
 use mathlib.Core.Logic.{_⊎_, inl, inr, ⊎-elim}
 use Prim.Native.Nat.{ℕ, zero, suc, _+_, _-_, _/_, _%_, _^_, _<_, _≤_}
-use native.Mathlib.Nat.{eq-or-lt-of-le, pow-suc}
+use native.Mathlib.Nat.{eq-or-lt-of-le, pow-suc, zero-add}
 use native.Mathlib.Omega.{arith}
 use borrow.Author.Tests.{eq-eqb, ne-eqb, lt-ltb, le-ltb}
 use lib.Dec.{eqb}
-use lib.ListN.{length, length-append, replicate}
+use lib.ListN.{length, set, length-append, replicate}
 use lib.Pow.{pow-mono}
+use lib.Seq.{sets}
+use Rattle.words.specs.Bytes.{part}
+use Rattle.words.specs.Words.{bytes}
+use Rattle.words.proofs.Stores.{sets-append}
 use Rattle.words.proofs.Cases.{below-or-not, equal-or-not}
 use Rattle.tree.specs.Numbers.{be8}
-use Rattle.tree.specs.Layout.{size, cardLength, label}
+use Rattle.tree.specs.Layout.{IsNode, size, offset, cardLength, label}
 use Rattle.tree.specs.Nodes.{pathNode}
 use Rattle.tree.specs.Labels.{Labels, form, message, labels, blankLabels, relabel, raised, newLabels}
-use Rattle.tree.proofs.ByteLaws.{append-inj, length-be}
-use Rattle.tree.proofs.LayoutLaws.{IsNode, inner, leaf, length-label}
+use Rattle.tree.proofs.ByteLaws.{append-inj, length-be, part-sets-second}
+use Rattle.tree.proofs.LayoutLaws.{inner, leaf, length-label}
 use Rattle.tree.proofs.NodeLaws.{path-root, path-leaf, path-level, path-distinct, On, Off, on-or-off}
 
 -- Messages
@@ -35,6 +39,18 @@ form-parts x p s y q t h e =
     let b = append-inj p (s ∷ []) q (t ∷ []) h (a .1) in
     record { label-same = a .0; parent-same = b .0; side-same = cc (b .1) }
 
+-- how the code puts a message together, at the front of a longer string
+pub form-put : (m x : List ℕ) (p s : ℕ) → length x + 9 ≤ length m
+    → part (set (sets (sets m 0 x) (length x) (bytes 8 p)) (length x + 8) s) 0 (length x + 9) ≡ form x (bytes 8 p) s
+unfolding form
+form-put m x p s h =
+    let v = x ++ (bytes 8 p ++ (s ∷ [])) in
+    let n : length v ≡ length x + 9 = length-append x (bytes 8 p ++ (s ∷ [])) in
+    let e : sets m 0 v ≡ set (sets (sets m 0 x) (length x) (bytes 8 p)) (length x + 8) s =
+    sets-append m 0 x (bytes 8 p ++ (s ∷ [])) ∙ ap (λ (k : ℕ). sets (sets m 0 x) k (bytes 8 p ++ (s ∷ []))) (zero-add (length x))
+    ∙ sets-append (sets m 0 x) (length x) (bytes 8 p) (s ∷ []) in
+    ap₂ (λ (l : List ℕ) (k : ℕ). part l 0 k) (sym e) (sym n) ∙ part-sets-second [] v m 0 (omega arith)
+
 pub message-same : (L M : Labels) (u : ℕ) → L u ≡ M u → L (u / 2) ≡ M (u / 2) → message L u ≡ message M u
 message-same L M u p q = ap₂ (λ (x y : List ℕ). form x y (u % 2)) p q
 
@@ -47,6 +63,10 @@ labels-root n t card = refl
 pub labels-below : (n t : ℕ) (card : List ℕ) (u : ℕ) → 2 ≤ u → labels n t card u ≡ label n card u
 unfolding labels
 labels-below n t card u h = rw (ne-eqb u 1 (λ (e : u ≡ 1). omega arith))
+
+pub labels-inner : (n t : ℕ) (card : List ℕ) (u : ℕ) → 2 ≤ u → u < 2 ^ n → labels n t card u ≡ part card (offset n u) 8
+unfolding label
+labels-inner n t card u h l = labels-below n t card u h ∙ ap (part card (offset n u)) (inner n u l .size-is)
 
 -- every node's label has its length
 abbrev pub Sized : ℕ → Labels → Type 0

@@ -9,13 +9,12 @@ use borrow.Author.Tests.{lt-ltb, le-ltb}
 use lib.ListN.{length, length-take, length-drop}
 use lib.Pow.{pow-mono}
 use Rattle.words.proofs.Cases.{below-or-not}
-use Rattle.tree.specs.Layout.{size, offset, cardLength, label}
+use Rattle.tree.specs.Layout.{IsNode, IsCard, size, offset, cardLength, label}
 
--- a node that has an entry on a card of depth n
-pub record IsNode (n u : ℕ) : Type 0 where
-  pub low : 2 ≤ u
-  pub high : u < 2 * 2 ^ n
+pub few-leaves : (n : ℕ) → n ≤ 16 → 2 ^ n ≤ 65536
+few-leaves n h = pow-mono {j = 16} h
 
+-- every one of a list is a node
 abbrev pub AllNodes : ℕ → List ℕ → Type 0
 AllNodes n us = (w : ℕ) → List·Memᴰ w us → IsNode n w
 
@@ -60,6 +59,17 @@ card-end n h = let p : 2 ^ 1 ≤ 2 ^ n = pow-mono h in omega (arith, leaf n (2 *
 
 pub entry-fits : (n u : ℕ) → IsNode n u → offset n u + (size n u + 16) ≤ cardLength n
 entry-fits n u h = omega (arith, entry-before n u (2 * 2 ^ n) (h .low) (h .high), leaf n (2 * 2 ^ n) (omega arith), h)
+
+pub entry-small : (n u : ℕ) → n ≤ 16 → IsNode n u → offset n u + (size n u + 16) ≤ 6815696
+entry-small n u l h = omega (arith, entry-fits n u h, few-leaves n l)
+
+-- the same of a card
+pub entry-on : (n : ℕ) (card : List ℕ) (u : ℕ) → IsCard n card → IsNode n u → offset n u + (size n u + 16) ≤ length card
+entry-on n card u d h = omega (arith, entry-fits n u h, d .full)
+
+pub size-low : (n u : ℕ) → size n u ≤ 64
+size-low n u =
+    ⊎-elim (λ (l : u < 2 ^ n). omega (arith, inner n u l)) (λ (g : 2 ^ n ≤ u). omega (arith, leaf n u g)) (below-or-not u (2 ^ n))
 
 pub entry-apart : (n u w : ℕ) → IsNode n u → IsNode n w → (u ≡ w → ⊥)
     → (offset n u + (size n u + 16) ≤ offset n w) ⊎ (offset n w + (size n w + 16) ≤ offset n u)

@@ -8,8 +8,8 @@ use native.Mathlib.Omega.{arith}
 use lib.Arith.{digits-div}
 use lib.Pow.{pow-mono, pow-pos, shr-shr}
 use Rattle.words.proofs.Cases.{below-or-not, equal-or-not}
+use Rattle.tree.specs.Layout.{IsNode}
 use Rattle.tree.specs.Nodes.{upTo, pathNode, sibling, path, pair, pairs, pairsButLeaf, allNodes}
-use Rattle.tree.proofs.LayoutLaws.{IsNode}
 
 -- Siblings
 
@@ -21,6 +21,9 @@ sibling-half u = omega arith
 pub twins : (u w : ℕ) → w / 2 ≡ u / 2 → (w ≡ u) ⊎ (w ≡ sibling u)
 unfolding sibling
 twins u w e = ⊎-elim (λ (p : w ≡ u). inl p) (λ (d : w ≡ u → ⊥). inr (omega arith)) (equal-or-not w u)
+
+pub twin-node : (n u w : ℕ) → w / 2 ≡ u / 2 → IsNode n u → IsNode n w
+twin-node n u w e h = record { low = omega (arith, h); high = omega (arith, h) }
 
 -- Lists of nodes, level by level
 
@@ -61,6 +64,10 @@ level-node n y u h l v =
     let p : 2 ^ 1 ≤ 2 ^ y = pow-mono h in
     let q : 2 ^ y ≤ 2 ^ n = pow-mono l in
     record { low = omega (arith, v); high = omega (arith, v) }
+
+-- block i's leaf
+pub leaf-node : (n i : ℕ) → 1 ≤ n → i < 2 ^ n → IsNode n (2 ^ n + i)
+leaf-node n i h l = let p : 2 ^ 1 ≤ 2 ^ n = pow-mono h in record { low = omega arith; high = omega arith }
 
 module _ (n i : ℕ) (inside : i < 2 ^ n) where
   pub path-root : pathNode n i 0 ≡ 1

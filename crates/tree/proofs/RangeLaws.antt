@@ -1,23 +1,26 @@
 -- The ranges that a write changes: how many, how long, in order and on the card; and nothing changes outside them.
 use mathlib.Core.Path.{_≡_, refl, sym, ap, subst, _∙_}
-use mathlib.Core.List.{List, [], _∷_, _++_, List·Memᴰ, List·Memᴰ·head, List·Memᴰ·tail, List·Memᴰ·cases-cons, List·Memᴰ·not-nil, Memᴰ·append-left, Memᴰ·append-right}
+use mathlib.Core.List.{List, [], _∷_, _++_, append-assoc, append-nil, List·Memᴰ, List·Memᴰ·head, List·Memᴰ·tail, List·Memᴰ·cases-cons, List·Memᴰ·not-nil, Memᴰ·append-left, Memᴰ·append-right}
 use mathlib.Core.Logic.{_⊎_, inl, inr, ⊎-elim}
 use Prim.Native.Nat.{ℕ, zero, suc, _+_, _*_, _-_, _/_, _^_, _<_, _≤_}
 use native.Mathlib.Nat.{eq-or-lt-of-le, pow-suc}
+use native.Mathlib.Numerals.{add-one}
 use native.Mathlib.Omega.{arith}
 use borrow.Author.Tests.{eq-eqb, ne-eqb}
-use lib.ListN.{length, drop}
-use lib.Seq.{getD-take, getD-drop}
+use lib.ListN.{length, drop, length-append}
+use lib.Seq.{getD-take, getD-drop, sets}
 use lib.Pow.{pow-mono, pow-pos}
 use Rattle.words.specs.Bytes.{at}
+use Rattle.words.proofs.Stores.{sets-append}
 use Rattle.words.proofs.Cases.{below-or-not, equal-or-not}
+use Rattle.tree.specs.Numbers.{be}
 use Rattle.tree.specs.Layout.{size, offset, cardLength, label}
 use Rattle.tree.specs.Nodes.{pathNode, pairs}
 use Rattle.tree.specs.Labels.{Labels, labels, newLabels}
 use Rattle.tree.specs.Card.{written}
-use Rattle.tree.specs.Ranges.{Range, rangeOf, rangePair, rangesTo, rangesOf}
-use Rattle.tree.proofs.ByteLaws.{append-inj}
-use Rattle.tree.proofs.LayoutLaws.{inner, leaf, entry-before, offset-mono, card-end}
+use Rattle.tree.specs.Ranges.{Range, rangeOf, rangePair, rangesTo, rangesOf, encode}
+use Rattle.tree.proofs.ByteLaws.{append-inj, length-be}
+use Rattle.tree.proofs.LayoutLaws.{inner, leaf, entry-before, offset-mono, card-end, few-leaves}
 use Rattle.tree.proofs.NodeLaws.{path-leaf, path-level, path-parent, Child, pairs-child, child-node, child-off, pair-node}
 use Rattle.tree.proofs.LabelLaws.{labels-below, labels-sized, new-off, new-sized}
 use Rattle.tree.proofs.CardLaws.{Puts, Leaves, stamped-byte}
@@ -52,9 +55,25 @@ unfolding total
 total-append [] ss = omega arith
 total-append (r ∷ rs) ss = omega (arith, total-append rs ss)
 
-count-append : (rs ss : List Range) → length (rs ++ ss) ≡ length rs + length ss
-count-append [] ss = omega arith
-count-append (r ∷ rs) ss = omega (arith, count-append rs ss)
+-- Ranges as bytes
+
+encode-append : (rs ss : List Range) → encode (rs ++ ss) ≡ encode rs ++ encode ss
+unfolding encode
+encode-append [] ss = refl
+encode-append (r ∷ rs) ss = simp (encode-append rs ss, append-assoc)
+
+length-encode : (rs : List Range) → length (encode rs) ≡ 8 * length rs
+unfolding encode
+length-encode [] = refl
+length-encode (r ∷ rs) =
+    simp length-append (omega (arith, length-be 4 (r .start), length-be 4 (r .count), length-encode rs))
+
+-- ranges stored behind others
+encode-stored : (s : List ℕ) (rs ss : List Range) (o : ℕ) → 8 * length rs ≡ o → sets (sets s 0 (encode rs)) o (encode ss) ≡ sets s 0 (encode (rs ++ ss))
+encode-stored s rs ss o e =
+    let k : 0 + length (encode rs) ≡ o = omega (arith, length-encode rs) in
+    sym (ap (sets s 0) (encode-append rs ss) ∙ sets-append s 0 (encode rs) (encode ss)
+    ∙ ap (λ (m : ℕ). sets (sets s 0 (encode rs)) m (encode ss)) k)
 
 -- The range of a node: all of its entry, or its tag alone
 
@@ -62,11 +81,15 @@ pub record RangeIs (r : Range) (start count : ℕ) : Type 0 where
   pub start-is : r .start ≡ start
   pub count-is : r .count ≡ count
 
-range-own : (n u w : ℕ) → w ≡ u → RangeIs (rangeOf n u w) (offset n w) (size n w + 16)
+pub range-own : (n u w : ℕ) → w ≡ u → RangeIs (rangeOf n u w) (offset n w) (size n w + 16)
 range-own n u w e = rw (eq-eqb w u e) (record { start-is = refl; count-is = refl })
 
-range-other : (n u w : ℕ) → (w ≡ u → ⊥) → RangeIs (rangeOf n u w) (offset n w + size n w) 16
+pub range-other : (n u w : ℕ) → (w ≡ u → ⊥) → RangeIs (rangeOf n u w) (offset n w + size n w) 16
 range-other n u w d = rw (ne-eqb w u d) (record { start-is = refl; count-is = refl })
+
+pub encode-one : (r : Range) (start count : ℕ) → RangeIs r start count → be 4 start ++ be 4 count ≡ encode (r ∷ [])
+unfolding encode
+encode-one r start count h = rw (append-nil, h .start-is, h .count-is)
 
 record Ends (n u w : ℕ) : Type 0 where
   low : offset n w ≤ rangeOf n u w .start
@@ -93,7 +116,25 @@ module _ (n i : ℕ) where
   pub ranges-count : (k : ℕ) → length (rangesTo n i k) ≡ 2 * k
   unfolding rangesTo
   ranges-count zero = refl
-  ranges-count (suc k) = count-append (rangesTo n i k) (rangePair n i (suc k)) ∙ omega (arith, ranges-count k)
+  ranges-count (suc k) = length-append (rangesTo n i k) (rangePair n i (suc k)) ∙ omega (arith, ranges-count k)
+
+  pub ranges-length : (k : ℕ) → length (encode (rangesTo n i k)) ≡ 16 * k
+  ranges-length k = omega (arith, length-encode (rangesTo n i k), ranges-count k)
+
+  -- a level more, stored behind those before it; u is its node of the path
+  pub ranges-more : (s t : List ℕ) (y u : ℕ) → t ≡ sets s 0 (encode (rangesTo n i y)) → u ≡ pathNode n i (y + 1)
+      → sets (sets t (16 * y) (encode (rangeOf n u (2 * (u / 2)) ∷ []))) (16 * y + 8) (encode (rangeOf n u (2 * (u / 2) + 1) ∷ []))
+      ≡ sets s 0 (encode (rangesTo n i (y + 1)))
+  unfolding rangesTo
+  ranges-more s t y u d h =
+      let rs = rangesTo n i y in
+      let a = rangeOf n u (2 * (u / 2)) ∷ [] in
+      let b = rangeOf n u (2 * (u / 2) + 1) ∷ [] in
+      let e = ranges-count y in
+      ap (λ (l : List ℕ). sets l (16 * y + 8) (encode b))
+      (ap (λ (l : List ℕ). sets l (16 * y) (encode a)) d ∙ encode-stored s rs a (16 * y) (omega arith))
+      ∙ encode-stored s (rs ++ a) b (16 * y + 8) (omega (arith, length-append rs a))
+      ∙ ap (λ (l : List Range). sets s 0 (encode l)) (append-assoc rs a b) ∙ rw (h, add-one y)
 
   module _ (inside : i < 2 ^ n) where
     -- below level n the entries have 24 bytes
@@ -147,7 +188,7 @@ module _ (n i : ℕ) where
 
     -- and four bytes hold each number
     pub range-short : 1 ≤ n → n ≤ 16 → (r : Range) → List·Memᴰ r (rangesOf n i) → r .start + r .count < 2 ^ 32
-    range-short h l r m = let p : 2 ^ n ≤ 2 ^ 16 = pow-mono l in omega (arith, range-fits h r m)
+    range-short h l r m = omega (arith, range-fits h r m, few-leaves n l)
 
 -- Two blocks with one list are equal
 

@@ -13,7 +13,7 @@ use Rattle.cipher.proofs.Examples.{sbox-entries}
 use Rattle.cmac.specs.Cmac.{double}
 use Rattle.cmac.proofs.Examples.{doubling-row}
 use Rattle.tree.specs.Numbers.{be8}
-use Rattle.tree.specs.Layout.{size, offset, cardLength, label}
+use Rattle.tree.specs.Layout.{IsNode, size, offset, cardLength, label}
 use Rattle.tree.specs.Nodes.{pathNode}
 use Rattle.tree.specs.Labels.{labels, raised, newLabels}
 use Rattle.tree.specs.Card.{written}
@@ -23,7 +23,6 @@ use Rattle.tree.specs.Limits.{firstFailing}
 use Rattle.tree.specs.Calls.{write, limits, done}
 use Rattle.tree.specs.declared.Anchor.{Anchor}
 use Rattle.tree.specs.declared.Refusal.{Refusal}
-use Rattle.tree.proofs.LayoutLaws.{IsNode}
 use Rattle.tree.proofs.LabelLaws.{labels-below}
 use Rattle.tree.proofs.WriteLaws.{written-length, written-labels}
 

@@ -5,11 +5,10 @@ use mathlib.Core.Logic.{_⊎_, inl, inr}
 use Prim.Native.Nat.{ℕ, _+_, _/_, _^_, _<_, _≤_}
 use native.Mathlib.Omega.{arith}
 use lib.ListN.{length}
-use Rattle.tree.specs.Layout.{cardLength, label, tag}
+use Rattle.tree.specs.Layout.{IsNode, cardLength, label, tag}
 use Rattle.tree.specs.Nodes.{pairs, allNodes}
 use Rattle.tree.specs.Labels.{Labels, message, labels, blankLabels, newLabels}
 use Rattle.tree.specs.Card.{blanked, written}
-use Rattle.tree.proofs.LayoutLaws.{IsNode}
 use Rattle.tree.proofs.NodeLaws.{Off, Child, pairs-child, child-pairs, child-node, pair-node, child-or-off, off-child, node-among, among-node}
 use Rattle.tree.proofs.LabelLaws.{Sized, message-same, labels-root, labels-below, labels-sized, parent-node, blank-sized, blank-root, new-off, new-root, new-sized}
 use Rattle.tree.proofs.CardLaws.{Alike, Shows, length-stamped, stamped-shows, stamped-keeps}

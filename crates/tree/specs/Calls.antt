@@ -1,5 +1,6 @@
 -- What the calls do, on every input: the answer, the anchor, the card and the lent buffer as they leave it.
 use Prim.Native.Nat.{ℕ, _+_, _*_, _^_}
+use mathlib.Core.Path.{_≡_}
 use mathlib.Core.List.{List, [], _∷_, _++_}
 use mathlib.Core.Option.{Option, none, some}
 use lib.ListN.{length, drop}
@@ -56,6 +57,13 @@ pub record Outcome : Type 0 where
   pub anchor : Anchor
   pub card : List ℕ
   pub lent : List ℕ
+
+-- That a call answered, and left the anchor, the card and the lent buffer, as an outcome says. Contracts are this record.
+pub record Gives (o : Outcome) (answer : Answer) (anchor : Anchor) (card lent : List ℕ) : Type 0 where
+  pub answered : answer ≡ o .answer
+  pub anchored : anchor ≡ o .anchor
+  pub left : card ≡ o .card
+  pub filled : lent ≡ o .lent
 
 -- the anchor with another root nonce
 abbrev pub rooted : Anchor → ℕ → Anchor

@@ -22,9 +22,13 @@ message L u = form (L u) (L (u / 2)) (u % 2)
 unfoldable pub labels : ℕ → ℕ → List ℕ → Labels
 labels n t card u = cond (eqb u 1) (be8 t) (label n card u)
 
+-- the nonce t for the root and each inner node, the block b for each leaf
+abbrev pub nonceOrBlock : ℕ → ℕ → List ℕ → Labels
+nonceOrBlock n t b u = cond (ltb u (2 ^ n)) (be8 t) b
+
 -- after format: every nonce t, and every block zero
 unfoldable pub blankLabels : ℕ → ℕ → Labels
-blankLabels n t u = cond (ltb u (2 ^ n)) (be8 t) (replicate 64 0)
+blankLabels n t = nonceOrBlock n t (replicate 64 0)
 
 -- L with x at u
 abbrev pub relabel : Labels → ℕ → List ℕ → Labels

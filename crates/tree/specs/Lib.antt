@@ -8,4 +8,5 @@ pub mod Card
 pub mod Ranges
 pub mod Answer
 pub mod Limits
+pub mod Tests
 pub mod Calls
