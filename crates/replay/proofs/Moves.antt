@@ -10,13 +10,13 @@ use Rattle.tree.specs.Nodes.{pairs}
 use Rattle.tree.specs.Labels.{message, labels}
 use Rattle.tree.specs.Card.{written}
 use Rattle.tree.specs.Answer.{isWhole}
-use Rattle.tree.specs.Calls.{Call, read, write, check, rooted, answerOf, settled, outcome}
+use Rattle.tree.specs.Calls.{Call, read, write, check, rooted, answerOf, settled, outcome, isWrite}
 use Rattle.tree.specs.declared.Anchor.{Anchor}
 use Rattle.tree.specs.declared.Answer.{Answer}
 use Rattle.tree.specs.declared.Answer.the-variants.{Whole, Wrong, Refused}
 use Rattle.tree.proofs.CallLaws.{outcome-key}
 use Rattle.replay.specs.Array.{moved}
-use Rattle.replay.specs.Run.{Step, isWrite, State, moves, next, after, writes}
+use Rattle.replay.specs.Run.{Step, State, moves, next, after, writes}
 
 module _ (F : List ℕ → List ℕ) (s : State) (card : List ℕ) where
   refused-still : (c : Call) (o : Answer) → (o ≡ Whole → ⊥) → moves F s c (settled F o (s .anchor) card c) ≡ s

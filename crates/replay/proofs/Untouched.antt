@@ -7,14 +7,14 @@ use Prim.Native.Nat.{ℕ, _+_, _/_, _^_, _<_, _≤_}
 use lib.ListN.{length}
 use Rattle.tree.specs.Layout.{IsNode, cardLength}
 use Rattle.tree.specs.Card.{blanked, written}
-use Rattle.tree.specs.Calls.{Call, write, outcome}
+use Rattle.tree.specs.Calls.{Call, write, outcome, isWrite}
 use Rattle.tree.specs.declared.Anchor.{Anchor}
 use Rattle.tree.specs.declared.Node.{Node}
 use Rattle.tree.specs.declared.Answer.the-variants.{Whole, Wrong}
 use Rattle.tree.proofs.NodeLaws.{Off, Child, child-or-off}
 use Rattle.tree.proofs.WriteLaws.{Right, blanked-length, blanked-right, written-length, stamped-right, right-stays}
 use Rattle.tree.proofs.CallLaws.{Passes, checks-nodes, accepted, accept, never-wrong, outcome-answer}
-use Rattle.replay.specs.Run.{Step, isWrite, State, next, after}
+use Rattle.replay.specs.Run.{Step, State, next, after}
 use Rattle.replay.specs.Claim
 use Rattle.replay.specs.Claim.{Place, known, Untouched, Quiet}
 use Rattle.replay.proofs.Moves.{Move, still, wrote-block, move}

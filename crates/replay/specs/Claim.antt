@@ -6,11 +6,11 @@ use mathlib.Core.List.{List, _∷_, _++_, List·Memᴰ}
 use mathlib.Core.Logic.{_⊎_}
 use Rattle.tree.specs.Layout.{label, tag}
 use Rattle.tree.specs.Labels.{message, labels}
-use Rattle.tree.specs.Calls.{Call, read, write, check, checks, Outcome, outcome}
+use Rattle.tree.specs.Calls.{Call, read, write, check, checks, Outcome, outcome, isWrite}
 use Rattle.tree.specs.declared.Node.{Node}
 use Rattle.tree.specs.declared.Answer.the-variants.{Whole, Wrong}
 use Rattle.replay.specs.Array.{blockAt}
-use Rattle.replay.specs.Run.{Step, isWrite, State, after}
+use Rattle.replay.specs.Run.{Step, State, after}
 
 -- a call of a list, with the calls before it and those behind
 pub record Place (xs : List Step) : Type 0 where

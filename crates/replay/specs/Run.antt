@@ -1,11 +1,11 @@
 -- A list of calls after a format, and what becomes known along it, for any function F that makes a tag of a message.
 use Prim.Native.Nat.{ℕ, _+_}
-use mathlib.Core.Bool.{Bool, true, false, cond, _&&_}
+use mathlib.Core.Bool.{cond, _&&_}
 use mathlib.Core.List.{List, [], _∷_, _++_, map}
 use Rattle.tree.specs.Nodes.{pairs, allNodes}
 use Rattle.tree.specs.Labels.{message, labels}
 use Rattle.tree.specs.Answer.{isWhole}
-use Rattle.tree.specs.Calls.{Call, read, write, check, Outcome, outcome, format}
+use Rattle.tree.specs.Calls.{Call, read, write, check, isWrite, Outcome, outcome, format}
 use Rattle.tree.specs.declared.Anchor.{Anchor}
 use Rattle.replay.specs.Array
 use Rattle.replay.specs.Array.{Told, Array, zeroed, moved}
@@ -20,11 +20,6 @@ abbrev pub told : Call → Told
 told (read i buffer) = Array.read i
 told (write i block ranges) = Array.write i block
 told check = Array.check
-
-abbrev pub isWrite : Call → Bool
-isWrite (read i buffer) = false
-isWrite (write i block ranges) = true
-isWrite check = false
 
 -- the nodes that an accepted call tags
 abbrev pub tags : ℕ → Call → List ℕ

@@ -8,6 +8,7 @@ use native.Mathlib.Omega.{arith}
 use lib.ListN.{length, take, drop, set, length-append, length-take, length-drop, drop-of-length-le}
 use lib.Seq.{take-append-seam, drop-append-seam, take-at, drop-at, getD-take, getD-drop, getD-set-other, ext-getD, drop-drop, length-take-le, sets, length-sets, sets-eq}
 use Rattle.words.specs.Bytes.{at, part}
+use Rattle.words.specs.Words.{bytes}
 use Rattle.words.proofs.Bytes.{bytes-halves}
 use Rattle.tree.specs.Numbers.{be}
 
@@ -32,6 +33,11 @@ be-inj (suc k) x y hx hy e =
     let high : x / 256 ≡ y / 256 = be-inj k (x / 256) (y / 256) (omega arith) (omega arith) (q .0) in
     let low : x % 256 ≡ y % 256 = cc (q .1) in
     omega arith
+
+-- a word that holds another's bytes in turn
+pub be-turned : (v w : ℕ) → bytes 8 v ≡ be 8 w → be 8 v ≡ bytes 8 w
+unfolding be
+be-turned v w e = ap reverse e
 
 -- the two halves of a number of eight bytes
 pub be-halves : (x : ℕ) → be 4 (x / 4294967296) ++ be 4 (x % 4294967296) ≡ be 8 x

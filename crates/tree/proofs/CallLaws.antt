@@ -88,6 +88,11 @@ Passes a card (read i buffer) = Reads (a .depth) (a .root .0) card i buffer
 Passes a card (write i block ranges) = Writes (a .depth) (a .root .0) card i block ranges
 Passes a card check = Sound (a .depth) (a .root .0) card
 
+pub passes-sound : (a : Anchor) (card : List ℕ) (c : Call) → Passes a card c → Sound (a .depth) (a .root .0) card
+passes-sound a card (read i buffer) p = p .sound
+passes-sound a card (write i block ranges) p = p .sound
+passes-sound a card check p = p
+
 depth-passes : (n : ℕ) → 1 ≤ n → n ≤ 16 → depthLimit n .fails ≡ false
 depth-passes n deep shallow = or-not (eqb n 0) (ltb 16 n) (ne-eqb n 0 (λ (z : n ≡ 0). omega arith)) (le-ltb 16 n shallow)
 
@@ -182,6 +187,16 @@ module _ (F : List ℕ → List ℕ) (n t : ℕ) (card : List ℕ) where
   unfolding firstWrong
   wrong-none [] f = refl
   wrong-none (w ∷ us) f = rw (is-right w (f w (List·Memᴰ·head refl))) (wrong-none us (λ u m. f u (List·Memᴰ·tail m)))
+
+  -- the node that is named is one of the list
+  pub wrong-among : (us : List ℕ) (u : ℕ) → firstWrong F n t card us ≡ some u → List·Memᴰ u us
+  unfolding firstWrong
+  wrong-among [] u e = let z : _≡_ {A = ℕ} 0 1 = cc in absurd (omega arith)
+  wrong-among (w ∷ us) u e = go (wrong-among us u) (right F n t card w) e
+    where
+      go : (firstWrong F n t card us ≡ some u → List·Memᴰ u us) → (b : Bool) → cond b (firstWrong F n t card us) (some w) ≡ some u → List·Memᴰ u (w ∷ us)
+      go rest true e = List·Memᴰ·tail (rest e)
+      go rest false e = let p : u ≡ w = cc in List·Memᴰ·head p
 
 -- What each call checks
 

@@ -1,6 +1,7 @@
 -- What the calls do, on every input: the answer, the anchor, the card and the lent buffer as they leave it.
 use Prim.Native.Nat.{ℕ, _+_, _*_, _^_}
 use mathlib.Core.Path.{_≡_}
+use mathlib.Core.Bool.{Bool, true, false}
 use mathlib.Core.List.{List, [], _∷_, _++_}
 use mathlib.Core.Option.{Option, none, some}
 use lib.ListN.{length, drop}
@@ -25,6 +26,12 @@ abbrev pub lentTo : Call → List ℕ
 lentTo (read i buffer) = buffer
 lentTo (write i block ranges) = ranges
 lentTo check = []
+
+-- the call that moves the anchor and the card
+abbrev pub isWrite : Call → Bool
+isWrite (read i buffer) = false
+isWrite (write i block ranges) = true
+isWrite check = false
 
 -- the limits that a call tests, in this order
 unfoldable pub limits : Anchor → List ℕ → Call → List Limit

@@ -1,0 +1,2 @@
+-- What the functions for C do, over the outcomes of the tree's calls.
+pub mod Host

@@ -1,0 +1,14 @@
+// The answer as one number.
+use tree::Answer;
+ghost use mathlib.Core.Path.{_≡_};
+ghost use Prim.Native.Nat.{_<_};
+ghost use Rattle.tree.specs.Answer.{nodeOf};
+ghost use Rattle.pat.specs.Host.{codeOf};
+
+// The number, plus 256 times the node.
+pub fn of(a: Answer) -> u64
+    requires { ⌜ nodeOf a < 131072 ⌝ }
+    ensures { λ r. ⌜ r ≡ codeOf a ⌝ }
+{
+    tree::number(a) + 256 * tree::node_of(a)
+}

@@ -1,0 +1,79 @@
+// The four calls for C, as a static library. A slice passes as a pointer and a length. The anchor is 32 bytes: key, depth and root nonce,
+// the numbers in eight bytes each, big-endian. The answer is the refusal's number plus 256 times the node, 0 when accepted.
+mod anchor;
+mod code;
+
+use tree::Answer;
+use tree::BlockIndex;
+ghost use mathlib.Core.List.{[]};
+ghost use Rattle.tree.specs.Calls.{read, write, check};
+ghost use Rattle.pat.specs.Host.{Hosts, hostCall, hostFormat};
+
+// Formats the card, and sets the anchor's root nonce to 0.
+#[no_mangle]
+pub extern "C" fn pat_format(anchor: &mut [u8], card: &mut [u8]) -> u64
+    ensures { λ r. ⌜ Hosts (hostFormat (now (anchor .entry)) (now (card .entry))) r (now (anchor .exit)) (now (card .exit)) [] ⌝ }
+{
+    if anchor.len() != 32 {
+        return 5;
+    }
+    let a = anchor::of(anchor);
+    let key = a.key;
+    let reply = tree::format(key, a.depth, card);
+    let answer = reply.answer;
+    let Answer::Whole = answer else {
+        return code::of(answer);
+    };
+    let made = reply.anchor;
+    anchor::put_root(anchor, made.root);
+    0
+}
+
+// Reads a block into the buffer.
+#[no_mangle]
+pub extern "C" fn pat_read(anchor: &[u8], card: &[u8], index: u64, buffer: &mut [u8]) -> u64
+    ensures { λ r. ⌜ Hosts (hostCall (now (anchor .entry)) (now (card .entry)) (read index (now (buffer .entry)))) r (now (anchor .entry)) (now (card .entry)) (now (buffer .exit)) ⌝ }
+{
+    if anchor.len() != 32 {
+        return 5;
+    }
+    let a = anchor::of(anchor);
+    code::of(tree::read(a, card, BlockIndex(index), buffer))
+}
+
+// Writes a block, and puts the new root nonce into the anchor.
+#[no_mangle]
+pub extern "C" fn pat_write(
+    anchor: &mut [u8],
+    card: &mut [u8],
+    index: u64,
+    block: &[u8],
+    ranges: &mut [u8],
+) -> u64
+    ensures { λ r. ⌜ Hosts (hostCall (now (anchor .entry)) (now (card .entry)) (write index (now (block .entry)) (now (ranges .entry)))) r (now (anchor .exit)) (now (card .exit)) (now (ranges .exit)) ⌝ }
+{
+    if anchor.len() != 32 {
+        return 5;
+    }
+    let a = anchor::of(anchor);
+    let reply = tree::write(a, card, BlockIndex(index), block, ranges);
+    let answer = reply.answer;
+    let Answer::Whole = answer else {
+        return code::of(answer);
+    };
+    let moved = reply.anchor;
+    anchor::put_root(anchor, moved.root);
+    0
+}
+
+// Checks every tag of the card.
+#[no_mangle]
+pub extern "C" fn pat_check(anchor: &[u8], card: &[u8]) -> u64
+    ensures { λ r. ⌜ Hosts (hostCall (now (anchor .entry)) (now (card .entry)) check) r (now (anchor .entry)) (now (card .entry)) [] ⌝ }
+{
+    if anchor.len() != 32 {
+        return 5;
+    }
+    let a = anchor::of(anchor);
+    code::of(tree::check(a, card))
+}
