@@ -108,6 +108,15 @@ mod tests {
         assert_eq!(tag, published.to_be_bytes());
     }
 
+    /// Document 01, row l: a bit that falls out comes back as 87.
+    #[test]
+    fn doubling() {
+        assert_eq!(
+            double(&(1_u128 << 127).to_be_bytes()),
+            0x87_u128.to_be_bytes()
+        );
+    }
+
     /// RFC 4493, section 4: AES of zero under the key, K1 and K2.
     #[test]
     fn subkeys() {

@@ -2,5 +2,8 @@
 //!
 //! It is written to be read beside them: plain steps, no tables from elsewhere, no speed.
 
+#![forbid(unsafe_code)]
+
 pub mod aes;
 pub mod cmac;
+pub mod tree;

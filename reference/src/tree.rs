@@ -1,0 +1,20 @@
+//! The card, the limits and the calls of document 01, in its order.
+//!
+//! Its mark is called a tag here and its serial a nonce. Below `limits` every depth is 1 to 16 and every card has the length of
+//! its depth.
+
+mod calls;
+pub mod layout;
+mod limits;
+pub mod messages;
+pub mod paths;
+pub mod ranges;
+mod words;
+
+pub use calls::{check, format, read, write};
+pub use words::{Anchor, Answer, BlockIndex, Node, Nonce, Refusal};
+
+#[cfg(test)]
+mod errors;
+#[cfg(test)]
+mod rows;
