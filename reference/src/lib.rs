@@ -6,4 +6,5 @@
 
 pub mod aes;
 pub mod cmac;
+pub mod host;
 pub mod tree;
