@@ -5,6 +5,7 @@
 #![forbid(unsafe_code)]
 
 pub mod aes;
+pub mod array;
 pub mod cmac;
 pub mod host;
 pub mod tree;
