@@ -1,6 +1,6 @@
 # The round store. `make check` is the whole test; `make vectors` runs the proved code on the published vectors.
 CARGO = cargo --offline
-ARCHIVES = probe_cipher probe_cmac
+ARCHIVES = probe_cipher probe_cmac pat
 
 .PHONY: help vectors archives test check bench clean
 

@@ -1,6 +1,8 @@
 //! The functions of the proved code's archives, as safe calls on slices of any length.
 //!
-//! Each answers 0 when it did its work and 1 when a length is not the one wanted.
+//! Those of the cipher and CMAC are here: each answers 0 when it did its work and 1 when a length is not the one wanted.
+
+pub mod pat;
 
 extern "C" {
     fn probe_sbox(out: *mut u8, out_len: usize) -> u64;
