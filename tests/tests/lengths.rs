@@ -1,47 +1,10 @@
 //! Lengths that are not the ones wanted, and the bytes around every buffer.
 
+use tests::guarded::Guarded;
 use tests::random::Random;
-
-const GUARD: usize = 64;
 
 /// Two fills, so that no byte written equals both.
 const FILLS: [u8; 2] = [0xa5, 0x5a];
-
-/// A buffer that lies between guard bytes, all of one fill.
-struct Guarded {
-    bytes: Vec<u8>,
-    length: usize,
-    fill: u8,
-}
-
-impl Guarded {
-    /// Makes room of that length.
-    fn new(length: usize, fill: u8) -> Self {
-        let bytes = vec![fill; length + 2 * GUARD];
-        Guarded {
-            bytes,
-            length,
-            fill,
-        }
-    }
-
-    /// The part between the guards.
-    fn part(&mut self) -> &mut [u8] {
-        &mut self.bytes[GUARD..GUARD + self.length]
-    }
-
-    /// Whether the guards are as they were made.
-    fn guards_hold(&self) -> bool {
-        let after = &self.bytes[GUARD + self.length..];
-        let mut guards = self.bytes[..GUARD].iter().chain(after);
-        guards.all(|&byte| byte == self.fill)
-    }
-
-    /// Whether no byte has changed.
-    fn untouched(&self) -> bool {
-        self.bytes.iter().all(|&byte| byte == self.fill)
-    }
-}
 
 /// The length wanted and lengths that are not it; the wanted one comes first.
 fn around(wanted: usize) -> [usize; 6] {
