@@ -1,6 +1,7 @@
 //! Buffers between guard bytes, so that a write outside them is seen.
 
-const GUARD: usize = 64;
+/// An odd number, so that what lies between has no alignment.
+const GUARD: usize = 61;
 
 /// What surrounds bytes that are not all of one fill.
 const FENCE: u8 = 0xd9;

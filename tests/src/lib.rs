@@ -1,6 +1,11 @@
-//! What the tests share: the proved code with the lengths it wants, random numbers, and how a difference is shown.
+//! What the tests share: the archives as calls, random numbers, cards and lists of calls, and how a difference is shown.
 
+pub mod call;
+pub mod cards;
 pub mod guarded;
+pub mod list;
 pub mod proved;
 pub mod random;
+pub mod spoil;
 pub mod support;
+pub mod tally;

@@ -1,0 +1,164 @@
+//! One call with all that it is given, made by the archive and by the reference.
+
+use crate::guarded::Guarded;
+use bindings::pat;
+use reference::host;
+
+/// Which of the four calls.
+#[derive(Clone, Copy, Debug, PartialEq, Eq)]
+pub enum Kind {
+    Format,
+    Read,
+    Write,
+    Check,
+}
+
+impl Kind {
+    pub const ALL: [Kind; 4] = [Kind::Format, Kind::Read, Kind::Write, Kind::Check];
+}
+
+/// A call and the bytes lent to it; any of them may have any length.
+#[derive(Clone, Debug, PartialEq, Eq)]
+pub struct Call {
+    pub kind: Kind,
+    pub anchor: Vec<u8>,
+    pub card: Vec<u8>,
+    pub index: u64,
+    /// The buffer of a read, the new block of a write.
+    pub block: Vec<u8>,
+    pub ranges: Vec<u8>,
+}
+
+/// The answer in its two parts: 0 or the refusal's number, and the node that refusal 8 names.
+#[derive(Clone, Copy, Debug, PartialEq, Eq)]
+pub struct Answer {
+    pub number: u64,
+    pub node: u64,
+}
+
+impl Answer {
+    pub const ACCEPTED: Answer = Answer::plain(0);
+
+    /// An answer that names no node.
+    pub const fn plain(number: u64) -> Self {
+        Answer { number, node: 0 }
+    }
+
+    /// Refusal 8 of that node.
+    pub const fn wrong(node: u64) -> Self {
+        Answer { number: 8, node }
+    }
+
+    /// Takes the host's answer apart.
+    fn of(word: u64) -> Self {
+        Answer {
+            number: word % 256,
+            node: word / 256,
+        }
+    }
+
+    /// Whether the call was accepted.
+    pub fn accepted(self) -> bool {
+        self == Answer::ACCEPTED
+    }
+}
+
+impl Call {
+    /// A format with this anchor and card, and nothing else lent; the rest is for the caller to set.
+    pub fn on(anchor: Vec<u8>, card: Vec<u8>) -> Self {
+        Call {
+            kind: Kind::Format,
+            anchor,
+            card,
+            index: 0,
+            block: Vec::new(),
+            ranges: Vec::new(),
+        }
+    }
+
+    /// Makes the call in the archive, on bytes between guards.
+    pub fn archive(&mut self) -> Answer {
+        let mut anchor = Guarded::holding(&self.anchor);
+        let mut card = Guarded::holding(&self.card);
+        let mut block = Guarded::holding(&self.block);
+        let mut ranges = Guarded::holding(&self.ranges);
+        let word = {
+            let (anchor, card) = (anchor.part(), card.part());
+            match self.kind {
+                Kind::Format => pat::format(anchor, card),
+                Kind::Read => pat::read(anchor, card, self.index, block.part()),
+                Kind::Write => pat::write(anchor, card, self.index, block.part(), ranges.part()),
+                Kind::Check => pat::check(anchor, card),
+            }
+        };
+        self.anchor = anchor.into_part("anchor");
+        self.card = card.into_part("card");
+        self.block = block.into_part("block");
+        self.ranges = ranges.into_part("ranges");
+        Answer::of(word)
+    }
+
+    /// Makes the call in the reference.
+    pub fn reference(&mut self) -> Answer {
+        let (anchor, card) = (&mut self.anchor, &mut self.card);
+        let (block, ranges) = (&mut self.block, &mut self.ranges);
+        Answer::of(match self.kind {
+            Kind::Format => host::pat_format(anchor, card),
+            Kind::Read => host::pat_read(anchor, card, self.index, block),
+            Kind::Write => host::pat_write(anchor, card, self.index, block, ranges),
+            Kind::Check => host::pat_check(anchor, card),
+        })
+    }
+
+    /// Makes the call in both, which have to leave the same answer and the same bytes; a refused call leaves all as it was.
+    #[track_caller]
+    pub fn both(&mut self) -> Answer {
+        let before = self.clone();
+        let mut reference = self.clone();
+        let answer = self.archive();
+        let expected = reference.reference();
+        assert_eq!(
+            answer,
+            expected,
+            "the archive's answer to {}",
+            before.short()
+        );
+        self.expect_bytes(&reference, &before.short());
+        if !answer.accepted() {
+            self.expect_bytes(&before, &format!("refused {}", before.short()));
+        }
+        answer
+    }
+
+    /// Stops the test at the first byte that is not the one expected.
+    #[track_caller]
+    pub fn expect_bytes(&self, expected: &Call, what: &str) {
+        let parts = [
+            ("anchor", &self.anchor, &expected.anchor),
+            ("card", &self.card, &expected.card),
+            ("block", &self.block, &expected.block),
+            ("ranges", &self.ranges, &expected.ranges),
+        ];
+        for (name, is, wanted) in parts {
+            assert_eq!(is.len(), wanted.len(), "{what}: length of {name}");
+            let differs = is.iter().zip(wanted).position(|(is, wanted)| is != wanted);
+            if let Some(at) = differs {
+                let (is, wanted) = (is[at], wanted[at]);
+                panic!("{what}: byte {at} of {name} is {is:02x} and not {wanted:02x}");
+            }
+        }
+    }
+
+    /// The call in one line.
+    pub fn short(&self) -> String {
+        format!(
+            "{:?} of block {}, anchor {}, lengths of card {}, block {}, ranges {}",
+            self.kind,
+            self.index,
+            crate::support::hex(&self.anchor),
+            self.card.len(),
+            self.block.len(),
+            self.ranges.len()
+        )
+    }
+}

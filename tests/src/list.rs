@@ -1,0 +1,159 @@
+//! A list of calls from its format on, and what document 01 promises of each call in it.
+
+use crate::call::{Answer, Call, Kind};
+use crate::cards;
+use crate::random::Random;
+use reference::array::{Array, Told};
+use reference::tree::layout;
+
+/// How many earlier cards a list keeps.
+const KEPT: usize = 8;
+
+/// The anchor, the card as last left, and what a reader may expect of them.
+pub struct List {
+    pub depth: u64,
+    pub anchor: Vec<u8>,
+    pub card: Vec<u8>,
+    pub array: Array,
+    /// Some cards as they were left earlier; the first is format's.
+    pub old: Vec<Vec<u8>>,
+    /// The root nonce at the start, and how many writes were accepted since.
+    start: u64,
+    writes: u64,
+    /// Whether every accepted write so far had an untouched card.
+    clean: bool,
+}
+
+impl List {
+    /// Formats a card of bytes from elsewhere.
+    pub fn new(depth: u64, random: &mut Random) -> Self {
+        let anchor = cards::anchor(&random.block(), depth, random.word());
+        let mut call = Call::on(anchor, random.bytes(layout::card_bytes(depth)));
+        assert_eq!(call.both(), Answer::ACCEPTED);
+        List {
+            depth,
+            anchor: call.anchor,
+            array: Array::formatted(depth),
+            old: vec![call.card.clone()],
+            card: call.card,
+            start: 0,
+            writes: 0,
+            clean: true,
+        }
+    }
+
+    /// The same card made right for a root nonce from which that many writes go up to the limit. Every nonce used from here
+    /// on is new, as after so many writes.
+    pub fn moved_before(mut self, limit: u64, room: u64) -> Self {
+        self.start = limit / self.depth * self.depth - room * self.depth;
+        self.writes = 0;
+        cards::set_root(&mut self.anchor, self.start);
+        cards::restamp(&self.anchor, &mut self.card);
+        self
+    }
+
+    /// How many blocks there are.
+    pub fn blocks(&self) -> u64 {
+        layout::blocks(self.depth)
+    }
+
+    /// A call within its limits, on the card as last left.
+    pub fn call(&self, kind: Kind, index: u64, random: &mut Random) -> Call {
+        let tail = random.below(20);
+        Call {
+            kind,
+            anchor: self.anchor.clone(),
+            card: self.card.clone(),
+            index,
+            block: self.block(kind, index, random),
+            ranges: random.bytes(16 * self.depth as usize + tail),
+        }
+    }
+
+    /// Any bytes for a read's buffer; for a write sometimes the block that is there already, or nearly.
+    fn block(&self, kind: Kind, index: u64, random: &mut Random) -> Vec<u8> {
+        let mut there = self.array.block(index).to_vec();
+        match random.below(6) {
+            0 if kind == Kind::Write => there,
+            1 if kind == Kind::Write => {
+                there[random.below(64)] ^= 1 << random.below(8);
+                there
+            }
+            _ => random.bytes(64),
+        }
+    }
+
+    /// An honest write, which is accepted; the list goes on with it.
+    pub fn write(&mut self, index: u64, random: &mut Random) {
+        let before = self.call(Kind::Write, index, random);
+        let mut after = before.clone();
+        assert_eq!(after.both(), Answer::ACCEPTED);
+        self.judge(&before, &after, Answer::ACCEPTED);
+        self.accept(&before, after, random);
+    }
+
+    /// Whether the call has the list's own anchor, so that it can be one of the list.
+    pub fn has(&self, call: &Call) -> bool {
+        call.kind != Kind::Format && call.anchor == self.anchor
+    }
+
+    /// Holds a call of the list to the array and to the promise of an untouched card.
+    pub fn judge(&mut self, before: &Call, after: &Call, answer: Answer) {
+        let untouched = before.card == self.card;
+        if self.clean && untouched {
+            assert_ne!(answer.number, 8, "untouched card: {}", before.short());
+        }
+        let accepted = answer.accepted();
+        match before.kind {
+            Kind::Read => {
+                let told = Told::Read(before.index);
+                if let Some(block) = self.array.step(told, accepted) {
+                    assert_eq!(after.block, block, "{}", before.short());
+                }
+            }
+            Kind::Write if accepted => expect_inside_ranges(self.depth, before, after),
+            Kind::Check if accepted => self.expect_array(&before.card),
+            _ => {}
+        }
+    }
+
+    /// Every block on the card is the array's.
+    pub fn expect_array(&self, card: &[u8]) {
+        for (index, block) in (0..).zip(self.array.blocks()) {
+            assert_eq!(cards::block(card, self.depth, index), block);
+        }
+    }
+
+    /// Goes on after an accepted write.
+    pub fn accept(&mut self, before: &Call, after: Call, random: &mut Random) {
+        let told = Told::Write(before.index, &before.block);
+        self.array.step(told, true);
+        self.clean &= before.card == self.card;
+        self.writes += 1;
+        let left = std::mem::replace(&mut self.card, after.card);
+        self.keep(left, random);
+        self.anchor = after.anchor;
+        let expected = self.start + self.writes * self.depth;
+        assert_eq!(cards::root(&self.anchor), expected);
+    }
+
+    /// Keeps an earlier card, in the place of another when there are many.
+    fn keep(&mut self, card: Vec<u8>, random: &mut Random) {
+        if self.old.len() < KEPT {
+            self.old.push(card);
+        } else {
+            self.old[1 + random.below(KEPT - 1)] = card;
+        }
+    }
+}
+
+/// What the write changed lies in the ranges that it handed out.
+fn expect_inside_ranges(depth: u64, before: &Call, after: &Call) {
+    let mut outside = after.card.clone();
+    for range in after.ranges[..16 * depth as usize].chunks(8) {
+        let number = |bytes: &[u8]| bytes.iter().fold(0, |sum, &byte| 256 * sum + byte as usize);
+        let (start, length) = (number(&range[..4]), number(&range[4..]));
+        outside[start..start + length].copy_from_slice(&before.card[start..start + length]);
+    }
+    assert!(outside == before.card, "a byte outside the ranges changed");
+}
