@@ -3,6 +3,7 @@
 pub mod call;
 pub mod cards;
 pub mod guarded;
+pub mod limits;
 pub mod list;
 pub mod proved;
 pub mod random;
