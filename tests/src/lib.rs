@@ -5,6 +5,7 @@ pub mod cards;
 pub mod guarded;
 pub mod limits;
 pub mod list;
+pub mod log;
 pub mod proved;
 pub mod random;
 pub mod spoil;

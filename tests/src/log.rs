@@ -1,0 +1,219 @@
+//! The log that the program `histories` prints, made by the reference alone.
+//!
+//! For each depth from 1 to 6: a line with the depth, then a line for the format (step 0, kind 16) and for each of 300 steps:
+//! step, kind, answer number, node, root nonce, and the Adler-32 of card, read buffer and range buffer.
+
+use reference::tree::{self, layout, Anchor, Answer, Node};
+use std::fmt::Write;
+
+const DEPTHS: std::ops::RangeInclusive<u64> = 1..=6;
+const STEPS: u64 = 300;
+const FORMAT: u64 = 16;
+const FRESH_CARD: u8 = 0xa5;
+const FRESH_BUFFER: [u8; 64] = [0x5a; 64];
+const FRESH_RANGES: [u8; 101] = [0x3c; 101];
+
+/// The generator xorshift64.
+struct Draws(u64);
+
+impl Draws {
+    /// The next number.
+    fn draw(&mut self) -> u64 {
+        self.0 ^= self.0 << 13;
+        self.0 ^= self.0 >> 7;
+        self.0 ^= self.0 << 17;
+        self.0
+    }
+
+    /// The low byte of as many numbers, one after the other.
+    fn bytes<const N: usize>(&mut self) -> [u8; N] {
+        std::array::from_fn(|_| self.draw() as u8)
+    }
+}
+
+/// The Adler-32 checksum of RFC 1950.
+fn adler(bytes: &[u8]) -> u32 {
+    let (mut low, mut high) = (1, 0);
+    for &byte in bytes {
+        low = (low + u32::from(byte)) % 65_521;
+        high = (high + low) % 65_521;
+    }
+    high << 16 | low
+}
+
+/// One depth: its card and anchor, an earlier card, and what the last step left in the buffers.
+struct Run {
+    draws: Draws,
+    anchor: Anchor,
+    card: Vec<u8>,
+    old: Vec<u8>,
+    buffer: [u8; 64],
+    ranges: [u8; 101],
+}
+
+impl Run {
+    /// Formats a card under a key that is drawn.
+    fn start(depth: u64) -> (Self, Answer) {
+        let mut draws = Draws(0x9e37_79b9_7f4a_7c15 ^ depth);
+        let key = draws.bytes();
+        let mut card = vec![FRESH_CARD; layout::card_bytes(depth)];
+        let answer = tree::format(&key, depth, &mut card);
+        let Answer::Accepted(anchor) = answer else {
+            panic!("format at depth {depth}: {answer:?}");
+        };
+        let run = Run {
+            draws,
+            anchor,
+            old: card.clone(),
+            card,
+            buffer: FRESH_BUFFER,
+            ranges: FRESH_RANGES,
+        };
+        (run, answer)
+    }
+
+    /// One step; gives its kind and answer.
+    fn step(&mut self) -> (u64, Answer) {
+        self.buffer = FRESH_BUFFER;
+        self.ranges = FRESH_RANGES;
+        let kind = self.draws.draw() % 16;
+        let index = self.draws.draw() % layout::blocks(self.anchor.depth);
+        let answer = match kind {
+            0..=4 => self.write(index),
+            5..=8 => self.read(index),
+            9 => self.check(),
+            10 => self.with_a_bit_flipped(|run| run.read(index)),
+            11 => self.with_a_bit_flipped(Run::check),
+            12 => tree::read(&self.anchor, &self.old, index, &mut self.buffer),
+            13 => self.mixed(index),
+            14 => self.beyond_a_limit(index),
+            _ => {
+                self.old.clone_from(&self.card);
+                self.check()
+            }
+        };
+        (kind, answer)
+    }
+
+    /// Reads a block of the card.
+    fn read(&mut self, index: u64) -> Answer {
+        tree::read(&self.anchor, &self.card, index, &mut self.buffer)
+    }
+
+    /// Writes a block that is drawn.
+    fn write(&mut self, index: u64) -> Answer {
+        let block: [u8; 64] = self.draws.bytes();
+        let (card, ranges) = (&mut self.card, &mut self.ranges);
+        let answer = tree::write(&self.anchor, card, index, &block, ranges);
+        if let Answer::Accepted(anchor) = answer {
+            self.anchor = anchor;
+        }
+        answer
+    }
+
+    /// Checks the card.
+    fn check(&mut self) -> Answer {
+        tree::check(&self.anchor, &self.card)
+    }
+
+    /// Makes a call while one bit of the card is flipped.
+    fn with_a_bit_flipped(&mut self, call: impl FnOnce(&mut Run) -> Answer) -> Answer {
+        let at = (self.draws.draw() % self.card.len() as u64) as usize;
+        let bit = 1 << (self.draws.draw() % 8);
+        self.card[at] ^= bit;
+        let answer = call(self);
+        self.card[at] ^= bit;
+        answer
+    }
+
+    /// Makes a call on the card with two nodes of the old one; an accepted write makes that the card.
+    fn mixed(&mut self, index: u64) -> Answer {
+        let depth = self.anchor.depth;
+        let card = self.card.clone();
+        for _ in 0..2 {
+            let node = Node(2 + self.draws.draw() % (2 * layout::blocks(depth) - 2));
+            let entry = layout::entry(depth, node);
+            self.card[entry.clone()].copy_from_slice(&self.old[entry]);
+        }
+        let choice = self.draws.draw() % 3;
+        let answer = match choice {
+            0 => self.read(index),
+            1 => self.check(),
+            _ => self.write(index),
+        };
+        if choice < 2 || answer.number() != 0 {
+            self.card = card;
+        }
+        answer
+    }
+
+    /// Makes a call that a limit refuses.
+    fn beyond_a_limit(&mut self, index: u64) -> Answer {
+        let (anchor, card) = (&self.anchor, &mut self.card);
+        match self.draws.draw() % 4 {
+            0 => {
+                let short = card.len() - 1;
+                tree::read(anchor, &card[..short], index, &mut self.buffer)
+            }
+            1 => {
+                let beyond = layout::blocks(anchor.depth) + index;
+                tree::read(anchor, card, beyond, &mut self.buffer)
+            }
+            2 => tree::read(anchor, card, index, &mut self.buffer[..63]),
+            _ => {
+                let block: [u8; 64] = self.draws.bytes();
+                let short = 16 * anchor.depth as usize - 1;
+                tree::write(anchor, card, index, &block, &mut self.ranges[..short])
+            }
+        }
+    }
+
+    /// The line of a step.
+    fn line(&self, step: u64, kind: u64, answer: Answer) -> String {
+        format!(
+            "{step} {kind} {} {} {} {} {} {}",
+            answer.number(),
+            answer.node(),
+            self.anchor.root,
+            adler(&self.card),
+            adler(&self.buffer),
+            adler(&self.ranges)
+        )
+    }
+}
+
+/// The whole log.
+pub fn log() -> String {
+    let mut log = String::new();
+    let mut put = |line: String| writeln!(log, "{line}").expect("room for a line");
+    for depth in DEPTHS {
+        let (mut run, answer) = Run::start(depth);
+        put(format!("depth {depth}"));
+        put(run.line(0, FORMAT, answer));
+        for step in 1..=STEPS {
+            let (kind, answer) = run.step();
+            put(run.line(step, kind, answer));
+        }
+    }
+    log
+}
+
+#[cfg(test)]
+mod tests {
+    use super::*;
+
+    /// Known checksums.
+    #[test]
+    fn checksums() {
+        assert_eq!(adler(b""), 1);
+        assert_eq!(adler(b"Wikipedia"), 0x11e6_0398);
+    }
+
+    /// The first numbers from the state 1.
+    #[test]
+    fn numbers() {
+        let mut draws = Draws(1);
+        assert_eq!(draws.draw(), 0x4082_2041);
+        assert_eq!(draws.draw(), 0x1000_4106_0c01_1441);
+    }
+}
