@@ -5,4 +5,5 @@ pub mod Moves
 pub mod Untouched
 pub mod Agreement
 pub mod Theorem
+pub mod OfCode
 pub mod Histories

@@ -8,11 +8,10 @@ use borrow.Author.Tests.{eq-eqb, ne-eqb}
 use lib.ListN.{length, set, replicate, getD-replicate, length-replicate, length-set}
 use lib.Seq.{getD-set-same, getD-set-other}
 use lib.Pow.{pow-mono}
-use Rattle.words.specs.Bytes.{same}
 use Rattle.words.proofs.Cases.{equal-or-not}
 use Rattle.tree.specs.Numbers.{be8}
 use Rattle.tree.specs.Layout.{IsNode, cardLength, label}
-use Rattle.tree.specs.Nodes.{pathNode, path, pairs, allNodes}
+use Rattle.tree.specs.Nodes.{pathNode, pairs, allNodes}
 use Rattle.tree.specs.Labels.{Labels, message, labels, blankLabels, newLabels}
 use Rattle.tree.specs.Card.{blanked, written}
 use Rattle.tree.proofs.NodeLaws.{path-root, path-leaf, path-parent, path-node, Off, pairs-child, child-node, path-pairs, inner-not-leaf, among-node}

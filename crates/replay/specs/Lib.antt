@@ -2,3 +2,4 @@
 pub mod Array
 pub mod Run
 pub mod Claim
+pub mod Ran

@@ -296,3 +296,10 @@ format-accept n card deep shallow full =
     ap (λ (r : Option Refusal). verdict r none)
     (pass (depthLimit n) (cardLimit n (length card) ∷ []) (depth-passes n deep shallow)
     (pass (cardLimit n (length card)) [] (equal-is (length card) (cardLength n) full) no-limits))
+
+pub format-in : (n : ℕ) (card : List ℕ) → formatAnswer n card ≡ Whole → IsCard n card
+unfolding formatAnswer
+format-in n card e =
+    let p = passes _ _ (verdict-whole _ none e .0) in
+    let d = depth-in n (p .0) in
+    record { deep = d .0; shallow = d .1; full = is-equal (length card) (cardLength n) (passes _ _ (p .1) .0) }

@@ -1,14 +1,13 @@
 use mathlib.Core.Path.{_≡_, sym, ap, ap₂, _∙_}
 use mathlib.Core.List.{List}
-use Prim.Native.Nat.{ℕ, _+_, _-_, _/_, _%_, _≤_}
+use Prim.Native.Nat.{ℕ, _+_, _-_, _%_, _≤_}
 use denote.Ref.{now}
 use native.Mathlib.Omega.{arith}
 use lib.ListN.{length, length-take, length-drop}
 use Rattle.words.specs.Bytes.{part, same}
-use Rattle.words.specs.Words.{bytes}
 use Rattle.cmac.specs.Context.{tagUnder}
 use Rattle.tree.specs.Layout.{size, offset, label, tag}
-use Rattle.tree.specs.Labels.{form, labels}
+use Rattle.tree.specs.Labels.{form}
 use Rattle.tree.specs.Tests.{passing}
 use Rattle.tree.proofs.LayoutLaws.{entry-on, size-low}
 use Rattle.tree.proofs.LabelLaws.{labels-below}

@@ -1,9 +1,8 @@
-use mathlib.Core.Path.{_≡_, sym, ap₂, ap, _∙_}
+use mathlib.Core.Path.{_≡_, ap₂, ap, _∙_}
 use Prim.Native.Nat.{ℕ, _+_, _-_, _^_, _≤_}
 use denote.Ref.{now}
 use native.Mathlib.Omega.{arith}
 use lib.ListN.{length, length-take, length-drop}
-use lib.Seq.{sets}
 use Rattle.words.specs.Bytes.{part}
 use Rattle.tree.specs.Layout.{IsNode, size, offset, label}
 use Rattle.tree.proofs.ByteLaws.{sets-whole}

@@ -1,19 +1,13 @@
-use mathlib.Core.Path.{_≡_, sym, ap, ap₂, _∙_}
+use mathlib.Core.Path.{_≡_, ap, _∙_}
 use mathlib.Core.List.{List}
 use mathlib.Core.Option.{none}
-use Prim.Native.Nat.{ℕ, _+_, _-_, _^_}
+use Prim.Native.Nat.{ℕ, _-_}
 use denote.Ref.{now}
-use native.Mathlib.Omega.{arith}
-use lib.ListN.{length-take, length-drop}
-use Rattle.words.specs.Bytes.{part}
 use Rattle.cmac.specs.Cmac.{cmacOf}
 use Rattle.cmac.proofs.Laws.{tags-of-context}
-use Rattle.tree.specs.Layout.{IsNode, offset, label}
 use Rattle.tree.specs.Nodes.{path}
 use Rattle.tree.specs.Card.{firstWrong}
 use Rattle.tree.specs.Calls.{read, checks, verdict, settled, outcome}
-use Rattle.tree.proofs.ByteLaws.{sets-whole}
-use Rattle.tree.proofs.LayoutLaws.{few-leaves, leaf, entry-on}
 use Rattle.tree.proofs.CallLaws.{Reads, passed, sound-card}
 use Rattle.tree.proofs.AnswerLaws.{settles, gives-wrong, gives-read}
 use borrow.Author.Needs.{needs}
