@@ -1,6 +1,6 @@
 // The tree on the card: its words, its four calls, and the numbers of their answers.
 mod layout;
-pub mod limits;
+mod limits;
 pub mod numbers;
 mod path;
 mod ranges;
