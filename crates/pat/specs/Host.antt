@@ -65,3 +65,10 @@ pub record Hosts (h : Host) (code : ℕ) (anchor card lent : List ℕ) : Type 0 
   pub anchored : anchor ≡ h .anchor
   pub left : card ≡ h .card
   pub filled : lent ≡ h .lent
+
+-- The same for a function that has the anchor as a struct: the outcome, its answer as one number.
+pub record Codes (o : Outcome) (code : ℕ) (anchor : Anchor) (card lent : List ℕ) : Type 0 where
+  pub coded : code ≡ codeOf (o .answer)
+  pub anchored : anchor ≡ o .anchor
+  pub left : card ≡ o .card
+  pub filled : lent ≡ o .lent

@@ -1,13 +1,16 @@
 // The four calls for C, as a static library. A slice passes as a pointer and a length. The anchor is 32 bytes: key, depth and root nonce,
 // the numbers in eight bytes each, big-endian. The answer is the refusal's number plus 256 times the node, 0 when accepted.
 mod anchor;
+mod boot;
 mod code;
 
+use tree::Anchor;
 use tree::Answer;
 use tree::BlockIndex;
 ghost use mathlib.Core.List.{[]};
-ghost use Rattle.tree.specs.Calls.{read, write, check};
-ghost use Rattle.pat.specs.Host.{Hosts, hostCall, hostFormat};
+ghost use Rattle.cmac.specs.Cmac.{cmacOf};
+ghost use Rattle.tree.specs.Calls.{read, write, check, outcome};
+ghost use Rattle.pat.specs.Host.{Hosts, hostCall, hostFormat, Codes};
 
 // Formats the card, and sets the anchor's root nonce to 0.
 #[no_mangle]
@@ -76,4 +79,20 @@ pub extern "C" fn pat_check(anchor: &[u8], card: &[u8]) -> u64
     }
     let a = anchor::of(anchor);
     code::of(tree::check(a, card))
+}
+
+// The write for boot code, which has the anchor as a struct in memory of its own: accepted, it moves the anchor in its place.
+#[no_mangle]
+pub extern "C" fn pat_write_in_place(
+    anchor: &mut Anchor,
+    card: &mut [u8],
+    index: u64,
+    block: &[u8],
+    ranges: &mut [u8],
+) -> u64
+    ensures { λ r. ⌜ Codes (outcome (cmacOf (now (anchor .entry) .key)) (now (anchor .entry)) (now (card .entry)) (write index (now (block .entry)) (now (ranges .entry)))) r (now (anchor .exit)) (now (card .exit)) (now (ranges .exit)) ⌝ }
+{
+    let reply = boot::write(*anchor, card, index, block, ranges);
+    *anchor = reply.anchor;
+    reply.code
 }

@@ -24,9 +24,11 @@ pub struct Node(pub u64);
 pub struct BlockIndex(pub u64);
 
 // The number that the root or an inner node gets anew with each write below it (document 01: serial; the tree paper: nonce).
+#[repr(C)]
 pub struct Nonce(pub u64);
 
 // The chip's record, which is trusted.
+#[repr(C)]
 pub struct Anchor {
     pub key: [u8; 16],
     pub depth: u64,
