@@ -1,0 +1,32 @@
+// A round written, read back, and refused once somebody has altered the card.
+#include <pat.h>
+
+#include <stdio.h>
+#include <string.h>
+
+enum { DEPTH = 2 };
+
+int main(void) {
+    uint8_t anchor[PAT_ANCHOR_BYTES] = "sixteen byte key"; // a product draws its key at random
+    uint8_t card[104 * (1 << DEPTH) - 48];
+    uint8_t block[PAT_BLOCK_BYTES] = "van 7: round 12", buffer[PAT_BLOCK_BYTES];
+    uint8_t ranges[PAT_RANGE_BYTES(DEPTH)];
+
+    pat_put_number(anchor + PAT_ANCHOR_DEPTH, DEPTH);
+    if (pat_format(anchor, sizeof anchor, card, sizeof card) != 0)
+        return 1;
+    if (pat_write(anchor, sizeof anchor, card, sizeof card, 3, block, sizeof block, ranges,
+                  sizeof ranges) != 0)
+        return 1;
+    for (size_t k = 0; k < sizeof ranges / 8; k++)
+        printf("copy %2u bytes at %3u to the card\n", (unsigned)pat_range_length(ranges, k),
+               (unsigned)pat_range_start(ranges, k));
+    if (pat_read(anchor, sizeof anchor, card, sizeof card, 3, buffer, sizeof buffer) != 0)
+        return 1;
+    printf("block 3: %s\n", (const char *)buffer);
+
+    card[sizeof card - 20] ^= 1;
+    uint64_t answer = pat_read(anchor, sizeof anchor, card, sizeof card, 3, buffer, sizeof buffer);
+    printf("altered: refused %u at node %u\n", pat_refusal(answer), (unsigned)pat_node(answer));
+    return pat_refusal(answer) == PAT_REFUSED_TAG ? 0 : 1;
+}

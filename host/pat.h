@@ -1,0 +1,156 @@
+// The round store: rounds on a card that anybody may alter, under an anchor that only the chip has.
+//
+// A card of depth n has 2^n blocks of 64 bytes and a tree of tags over them. The anchor has the
+// key, the depth and the root nonce T. The block that an accepted read gives is the one that was
+// last written under that anchor, unless somebody has forged a CMAC under its key. (Document 01
+// calls a tag a mark and a nonce a serial.)
+//
+// CONVENTIONS
+//
+// Bytes. A call takes buffers, each as a pointer and its length in bytes, and numbers. Buffers need
+// no alignment. Numbers in buffers are big-endian.
+//
+// Pointers. None may be null, not even one whose length is 0, and a buffer must be there in its
+// whole length. The buffers of one call may not overlap, not even those that it only reads. Nobody
+// else may alter them during the call: a card that a device or another process can reach has to be
+// copied into memory of the caller's own first.
+//
+// Threads. The library has no state: no variable outlives a call, and no memory is allocated. Calls
+// on different memory may run at once, and so may reads and checks on the same memory.
+//
+// Answers. 0 says accepted. Every other answer is a refusal number plus 256 times a node number;
+// pat_refusal and pat_node take it apart, and only refusal 8 names a node. A call makes its tests
+// in the order in which its refusals are listed below, and answers with the first that fails. A
+// refused call leaves every byte of every buffer as it was.
+//
+// Nodes. The root is node 1, node u has the children 2u and 2u + 1, and block i is node 2^n + i.
+//
+// Not promised: that blocks are secret, that calls take the same time for all keys and cards, and
+// that the stack has nothing of the key afterwards.
+#ifndef PAT_H
+#define PAT_H
+
+#include <stddef.h>
+#include <stdint.h>
+
+#ifdef __cplusplus
+extern "C" {
+#endif
+
+// On every call: the answer must be looked at, and no pointer may be null.
+#if defined(__GNUC__)
+#define PAT_CALL __attribute__((warn_unused_result, nonnull))
+#else
+#define PAT_CALL
+#endif
+
+// An anchor: the key, then the depth and the root nonce as numbers of 8 bytes at these places.
+#define PAT_ANCHOR_BYTES 32
+#define PAT_KEY_BYTES 16
+#define PAT_ANCHOR_DEPTH 16
+#define PAT_ANCHOR_ROOT 24
+
+// A depth is from 1 to this.
+#define PAT_MAX_DEPTH 16
+
+#define PAT_BLOCK_BYTES 64
+
+// What a write needs to list its ranges: 2 * depth of them, 8 bytes each; the maximum serves all.
+#define PAT_RANGE_BYTES(depth) ((size_t)16 * (size_t)(depth))
+#define PAT_MAX_RANGE_BYTES 256
+
+// Why a call is refused. Behind the colon, who can mend it.
+enum pat_refusals {
+    PAT_ACCEPTED = 0,
+    PAT_REFUSED_DEPTH = 1,        // the depth is 0 or above 16: the calling software
+    PAT_REFUSED_ROOT_NONCE = 2,   // T is no multiple of the depth: the anchor
+    PAT_REFUSED_CARD_LENGTH = 3,  // not the length of a card of this depth: whoever has the card
+    PAT_REFUSED_BLOCK_NUMBER = 4, // the block number is 2^depth or above: the calling software
+    PAT_REFUSED_LENGTH = 5,       // anchor not 32 bytes, or block not 64: the calling software
+    PAT_REFUSED_RANGE_LENGTH = 6, // the range buffer is too short: the calling software
+    PAT_REFUSED_SPENT = 7,        // T + depth passes 2^64 - 1: the anchor
+    PAT_REFUSED_TAG = 8           // the tag of the node named is wrong: whoever has the card
+};
+
+// The refusal number of an answer.
+static inline unsigned pat_refusal(uint64_t answer) {
+    return (unsigned)(answer % 256);
+}
+
+// The node that an answer names, 0 where it names none.
+static inline uint64_t pat_node(uint64_t answer) {
+    return answer / 256;
+}
+
+// The length of a card, 104 * 2^depth - 48 bytes; 0 for a depth that is not 1 to 16.
+static inline size_t pat_card_bytes(uint64_t depth) {
+    return depth >= 1 && depth <= PAT_MAX_DEPTH ? ((size_t)104 << depth) - 48 : 0;
+}
+
+// A number of 8 bytes, as an anchor has its depth and T.
+static inline uint64_t pat_get_number(const uint8_t *bytes) {
+    uint64_t number = 0;
+    for (int k = 0; k < 8; k++)
+        number = number << 8 | bytes[k];
+    return number;
+}
+
+static inline void pat_put_number(uint8_t *bytes, uint64_t number) {
+    for (int k = 7; k >= 0; k--, number >>= 8)
+        bytes[k] = (uint8_t)number;
+}
+
+// Where range k of a write's list, counted from 0, starts on the card, and how long it is.
+static inline uint32_t pat_range_start(const uint8_t *ranges, size_t k) {
+    return (uint32_t)(pat_get_number(ranges + 8 * k) >> 32);
+}
+
+static inline uint32_t pat_range_length(const uint8_t *ranges, size_t k) {
+    return (uint32_t)pat_get_number(ranges + 8 * k);
+}
+
+// Makes an empty card: all blocks and nonces zero, all tags right for T = 0. Takes key and depth
+// from the anchor and sets its T to 0, whatever it was.
+//
+// Give a key to one format only: a second would use its nonces again, and then an old card can pass
+// for a new one.
+//
+// Refused 5: the anchor has not 32 bytes. 1: depth. 3: card length.
+uint64_t pat_format(uint8_t *anchor, size_t anchor_len, uint8_t *card, size_t card_len) PAT_CALL;
+
+// Copies a block into the buffer, once every tag on the path from the root to it is right. Alters
+// nothing else.
+//
+// Refused 5: the anchor has not 32 bytes. 1: depth. 2: T. 3: card length. 4: block number.
+// 5: the buffer has not 64 bytes. 8: a tag on the path is wrong, the first from the root downwards.
+uint64_t pat_read(const uint8_t *anchor, size_t anchor_len, const uint8_t *card, size_t card_len,
+                  uint64_t index, uint8_t *buffer, size_t buffer_len) PAT_CALL;
+
+// Puts a new block on the card, and the new T, which is the old one plus the depth, into the
+// anchor. The first 16 * depth bytes of the range buffer list what changed on the card: start and
+// length of each range, 4 bytes each, sorted by start, neighbours not merged. The rest of the card
+// and of the range buffer stay as they were.
+//
+// Store the new anchor before any of the ranges: a tag that was seen on a card must not have a
+// nonce that is used again. A card of another time than its anchor is refused with 8.
+//
+// Refused 5: the anchor has not 32 bytes. 1: depth. 2: T. 3: card length. 4: block number.
+// 5: the block has not 64 bytes. 6: range buffer. 7: T is spent; format another card with a new
+// key. 8: a tag is wrong, the first from the root downwards, at each level the path's node and then
+// its sibling; the tag of the block that is replaced is not looked at.
+uint64_t pat_write(uint8_t *anchor, size_t anchor_len, uint8_t *card, size_t card_len,
+                   uint64_t index, const uint8_t *block, size_t block_len, uint8_t *ranges,
+                   size_t ranges_len) PAT_CALL;
+
+// Checks every tag on the card. Alters nothing.
+//
+// Refused 5: the anchor has not 32 bytes. 1: depth. 2: T. 3: card length. 8: a tag is wrong, the
+// one of the lowest node number.
+uint64_t pat_check(const uint8_t *anchor, size_t anchor_len, const uint8_t *card,
+                   size_t card_len) PAT_CALL;
+
+#ifdef __cplusplus
+}
+#endif
+
+#endif
