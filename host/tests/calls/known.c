@@ -1,0 +1,103 @@
+// Histories whose answers, cards, anchors and ranges are known from model.py.
+#include "calls.h"
+#include "tests.h"
+
+#include <stdio.h>
+#include <stdlib.h>
+#include <string.h>
+
+enum kind { START = CHECK + 1 };
+
+// A call and what is left after it. argument: the new block, or the block that is read.
+struct row {
+    const char *history;
+    unsigned depth;
+    unsigned call;
+    uint64_t index;
+    const char *argument;
+    uint64_t root;
+    uint64_t card_digest;
+    const char *ranges;
+};
+
+#include "known.h"
+
+static void unhex(uint8_t *bytes, const char *digits) {
+    for (; *digits != '\0'; digits += 2) {
+        const char pair[] = {digits[0], digits[1], '\0'};
+        *bytes++ = (uint8_t)strtoul(pair, NULL, 16);
+    }
+}
+
+// FNV-1a in 64 bits.
+static uint64_t digest(const uint8_t *bytes, size_t length) {
+    uint64_t value = 0xcbf29ce484222325;
+    for (size_t k = 0; k < length; k++)
+        value = (value ^ bytes[k]) * 0x100000001b3;
+    return value;
+}
+
+static struct store start(const struct row *row) {
+    struct store s = make_store(row->depth);
+    if (row->root != 0) {
+        pat_put_number(s.anchor + PAT_ANCHOR_ROOT, row->root);
+        unhex(s.card, last_card);
+    }
+    return s;
+}
+
+// What the call gave besides anchor and card.
+static void expect_result(const struct row *row, const struct outcome *o, const char *name) {
+    uint8_t expected[PAT_MAX_RANGE_BYTES];
+    if (row->call == READ) {
+        unhex(expected, row->argument);
+        expect(memcmp(o->buffer.bytes, expected, PAT_BLOCK_BYTES) == 0, "%s: the block read", name);
+    }
+    if (row->call == WRITE) {
+        unhex(expected, row->ranges);
+        expect(memcmp(o->ranges.bytes, expected, PAT_RANGE_BYTES(row->depth)) == 0,
+               "%s: the ranges", name);
+    }
+}
+
+static void expect_left(const struct row *row, const struct store *s, const char *name) {
+    expect(memcmp(s->anchor, test_key, PAT_KEY_BYTES) == 0, "%s: the key stays", name);
+    expect(pat_get_number(s->anchor + PAT_ANCHOR_DEPTH) == row->depth, "%s: the depth stays", name);
+    expect(pat_get_number(s->anchor + PAT_ANCHOR_ROOT) == row->root, "%s: the root nonce", name);
+    expect(digest(s->card, s->card_len) == row->card_digest, "%s: the card", name);
+}
+
+static void follow(const struct row *row, struct store *s, const char *name) {
+    uint8_t block[PAT_BLOCK_BYTES];
+    unhex(block, row->argument);
+    struct arguments a = arguments_for((enum call)row->call, s, row->index, block);
+    struct outcome o = perform(&a);
+    expect(o.answer == 0, "%s: accepted, and not answered %llu", name,
+           (unsigned long long)o.answer);
+    expect_result(row, &o, name);
+    memcpy(s->anchor, o.anchor.bytes, PAT_ANCHOR_BYTES);
+    memcpy(s->card, o.card.bytes, s->card_len);
+    settle(&o);
+}
+
+void test_known(void) {
+    struct store s = {0};
+    for (size_t k = 0; k < sizeof rows / sizeof *rows; k++) {
+        char name[64];
+        snprintf(name, sizeof name, "history %s, row %zu of known.h", rows[k].history, k);
+        if (rows[k].call == START) {
+            drop_store(&s);
+            s = start(&rows[k]);
+        } else {
+            follow(&rows[k], &s, name);
+        }
+        expect_left(&rows[k], &s, name);
+    }
+    uint8_t block[PAT_BLOCK_BYTES] = {0};
+    struct arguments a = arguments_for(WRITE, &s, 0, block);
+    struct outcome o = perform(&a);
+    expect(o.answer == PAT_REFUSED_SPENT && all_unchanged(&o),
+           "after the last root nonce a write is refused");
+    settle(&o);
+    drop_store(&s);
+}

@@ -1,0 +1,12 @@
+// The parts of the test.
+#ifndef TESTS_H
+#define TESTS_H
+
+void test_header(void);
+void test_table(void);
+void test_known(void);
+void test_refusals(void);
+void test_flips(void);
+void test_histories(void);
+
+#endif

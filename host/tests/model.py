@@ -1,0 +1,167 @@
+"""The card of document 01 in plain Python, AES-128 and CMAC included, for known answers and for the tool's tests."""
+
+KEY, BLOCK, TAG, NONCE = 16, 64, 16, 8
+
+
+def double(x):
+    """Twice x in the field of FIPS 197."""
+    return (x << 1) ^ (0x11B if x & 0x80 else 0)
+
+
+def times(x, y):
+    product = 0
+    while y:
+        product, x, y = product ^ (x if y & 1 else 0), double(x), y >> 1
+    return product
+
+
+def substitute(x):
+    """An entry of the substitution table by its rule."""
+    inverse = next((y for y in range(256) if times(x, y) == 1), 0)
+    turned = inverse | inverse << 8
+    return (inverse ^ turned >> 4 ^ turned >> 5 ^ turned >> 6 ^ turned >> 7 ^ 0x63) & 0xFF
+
+
+SBOX = [substitute(x) for x in range(256)]
+TWICE = [double(x) for x in range(256)]
+
+
+def expand(key):
+    """The eleven round keys."""
+    words, constant = [list(key[4 * k : 4 * k + 4]) for k in range(4)], 1
+    for k in range(4, 44):
+        word = words[k - 1]
+        if k % 4 == 0:
+            word = [SBOX[b] for b in word[1:] + word[:1]]
+            word[0] ^= constant
+            constant = double(constant)
+        words.append([a ^ b for a, b in zip(words[k - 4], word)])
+    return [sum(words[4 * r : 4 * r + 4], []) for r in range(11)]
+
+
+def mix(a, b, c, d):
+    """A column of MixColumns."""
+    every = a ^ b ^ c ^ d
+    return [a ^ every ^ TWICE[a ^ b], b ^ every ^ TWICE[b ^ c], c ^ every ^ TWICE[c ^ d], d ^ every ^ TWICE[d ^ a]]
+
+
+def encrypt(keys, block):
+    state = [a ^ b for a, b in zip(block, keys[0])]
+    for number in range(1, 11):
+        state = [SBOX[state[(k + 4 * (k % 4)) % 16]] for k in range(16)]
+        if number < 10:
+            state = sum((mix(*state[k : k + 4]) for k in (0, 4, 8, 12)), [])
+        state = [a ^ b for a, b in zip(state, keys[number])]
+    return state
+
+
+class Cmac:
+    """RFC 4493 under one key."""
+
+    def __init__(self, key):
+        self.keys = expand(key)
+        self.subkeys = [self.double(encrypt(self.keys, bytes(16)))]
+        self.subkeys.append(self.double(self.subkeys[0]))
+
+    @staticmethod
+    def double(block):
+        number = int.from_bytes(bytes(block), "big") << 1
+        return ((number & (1 << 128) - 1) ^ (0x87 if number >> 128 else 0)).to_bytes(16, "big")
+
+    def tag(self, message):
+        cut = 16 * max(0, (len(message) - 1) // 16)
+        last, subkey = message[cut:], self.subkeys[0]
+        if len(last) < 16:
+            last, subkey = (last + b"\x80").ljust(16, b"\0"), self.subkeys[1]
+        state = bytes(16)
+        for k in range(0, cut, 16):
+            state = encrypt(self.keys, [a ^ b for a, b in zip(state, message[k : k + 16])])
+        return bytes(encrypt(self.keys, [a ^ b ^ c for a, b, c in zip(state, last, subkey)]))
+
+
+def card_bytes(depth):
+    return 104 * 2**depth - 48
+
+
+def place(depth, node):
+    """Where a node's entry starts, and the size of its label."""
+    if node < 2**depth:
+        return 24 * (node - 2), NONCE
+    return 24 * (2**depth - 2) + 80 * (node - 2**depth), BLOCK
+
+
+def entry(depth, node):
+    """The slice of a card that has the node's label and tag."""
+    start, size = place(depth, node)
+    return slice(start, start + size + TAG)
+
+
+class Card:
+    """A card and its anchor, as honest calls leave them."""
+
+    def __init__(self, key, depth, root=0):
+        """A card whose nonces and blocks are all zero, with tags right for the root nonce: a format where that is 0."""
+        self.key, self.depth, self.root = key, depth, root
+        self.cmac, self.bytes = Cmac(key), bytearray(card_bytes(depth))
+        made = {}
+        for node in range(2, 2 * 2**depth):
+            message = self.message(node)
+            if message not in made:
+                made[message] = self.cmac.tag(message)
+            self.put_tag(node, made[message])
+
+    def anchor(self):
+        return self.key + self.depth.to_bytes(8, "big") + self.root.to_bytes(8, "big")
+
+    def label(self, node):
+        if node == 1:
+            return self.root.to_bytes(8, "big")
+        start, size = place(self.depth, node)
+        return bytes(self.bytes[start : start + size])
+
+    def message(self, node):
+        return self.label(node) + self.label(node // 2) + bytes([node % 2])
+
+    def put_label(self, node, label):
+        start, size = place(self.depth, node)
+        self.bytes[start : start + size] = label
+
+    def put_tag(self, node, tag):
+        start, size = place(self.depth, node)
+        self.bytes[start + size : start + size + TAG] = tag
+
+    def path(self, index):
+        """u_0 to u_n."""
+        leaf = 2**self.depth + index
+        return [leaf >> self.depth - y for y in range(self.depth + 1)]
+
+    def write(self, index, block):
+        """An accepted write; gives the ranges."""
+        path = self.path(index)
+        for y, node in enumerate(path[1:-1], 1):
+            self.put_label(node, (self.root + self.depth - y).to_bytes(8, "big"))
+        self.put_label(path[-1], block)
+        self.root += self.depth
+        for node in path[1:]:
+            for child in (node, node ^ 1):
+                self.put_tag(child, self.cmac.tag(self.message(child)))
+        return self.ranges(index)
+
+    def ranges(self, index):
+        changed = []
+        for node in self.path(index)[1:]:
+            start, size = place(self.depth, node)
+            changed.append((start, size + TAG))
+            start, size = place(self.depth, node ^ 1)
+            changed.append((start + size, TAG))
+        return sorted(changed)
+
+    def block(self, index):
+        return self.label(2**self.depth + index)
+
+    def first_wrong(self, nodes):
+        """The first of the nodes whose tag is wrong, or None."""
+        for node in nodes:
+            if self.bytes[entry(self.depth, node)][-TAG:] != self.cmac.tag(self.message(node)):
+                return node
+        return None
