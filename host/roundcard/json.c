@@ -1,0 +1,67 @@
+#include "json.h"
+#include "pat.h"
+#include "text.h"
+
+#include <inttypes.h>
+#include <stdio.h>
+#include <string.h>
+
+static void put_name(const char *name) {
+    printf(", \"%s\": ", name);
+}
+
+void json_open(const char *command, int status) {
+    printf("{\"command\": \"%s\", \"status\": %d, \"accepted\": %s", command, status,
+           status == 0 ? "true" : "false");
+}
+
+void json_number(const char *name, uint64_t number) {
+    put_name(name);
+    printf("%" PRIu64, number);
+}
+
+void json_null(const char *name) {
+    put_name(name);
+    fputs("null", stdout);
+}
+
+void json_string(const char *name, const char *text) {
+    json_text(name, (const uint8_t *)text, strlen(text));
+}
+
+void json_text(const char *name, const uint8_t *text, size_t length) {
+    put_name(name);
+    putchar('"');
+    for (size_t k = 0; k < length;) {
+        size_t size = utf8_size(text + k, length - k);
+        if (size == 0)
+            fputs("\\ufffd", stdout);
+        else if (text[k] < 0x20 || text[k] == 0x7f)
+            printf("\\u%04x", text[k]);
+        else if (text[k] == '"' || text[k] == '\\')
+            printf("\\%c", text[k]);
+        else
+            fwrite(text + k, 1, size, stdout);
+        k += size == 0 ? 1 : size;
+    }
+    putchar('"');
+}
+
+void json_hex(const char *name, const uint8_t *bytes, size_t length) {
+    put_name(name);
+    putchar('"');
+    print_hex(bytes, length);
+    putchar('"');
+}
+
+void json_ranges(const char *name, const uint8_t *ranges, size_t count) {
+    put_name(name);
+    for (size_t k = 0; k < count; k++)
+        printf("%s[%" PRIu32 ", %" PRIu32 "]", k == 0 ? "[" : ", ", pat_range_start(ranges, k),
+               pat_range_length(ranges, k));
+    putchar(']');
+}
+
+void json_close(void) {
+    fputs("}\n", stdout);
+}

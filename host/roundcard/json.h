@@ -1,0 +1,27 @@
+// One JSON object on standard output, name by name.
+#ifndef JSON_H
+#define JSON_H
+
+#include <stddef.h>
+#include <stdint.h>
+
+// Starts it with the command, the exit status and whether the call was accepted.
+void json_open(const char *command, int status);
+
+void json_number(const char *name, uint64_t number);
+
+void json_null(const char *name);
+
+// A string that ends with a zero byte, and one of some length. What is not UTF-8 in it becomes
+// U+FFFD.
+void json_string(const char *name, const char *text);
+void json_text(const char *name, const uint8_t *text, size_t length);
+
+void json_hex(const char *name, const uint8_t *bytes, size_t length);
+
+// An array of pairs of start and length.
+void json_ranges(const char *name, const uint8_t *ranges, size_t count);
+
+void json_close(void);
+
+#endif

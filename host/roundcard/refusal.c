@@ -1,0 +1,120 @@
+#include "refusal.h"
+#include "pat.h"
+#include "report.h"
+
+#include <inttypes.h>
+#include <stdio.h>
+
+enum { LONGEST = 256 };
+
+static const char software[] = "the calling software";
+static const char anchor[] = "the anchor";
+static const char holder[] = "whoever has the card";
+
+static const struct remedy remedies[] = {
+    [PAT_REFUSED_DEPTH] = {software,
+                           "give a depth from 1 to 16, or the anchor file that format made"},
+    [PAT_REFUSED_ROOT_NONCE] = {anchor, "use the anchor file as format or the last write left it"},
+    [PAT_REFUSED_CARD_LENGTH] = {holder, "give the whole card image that belongs to this anchor"},
+    [PAT_REFUSED_BLOCK_NUMBER] = {software, "give the number of a block that the card has"},
+    [PAT_REFUSED_LENGTH] = {software, "give an anchor file of 32 bytes and a block of 64"},
+    [PAT_REFUSED_RANGE_LENGTH] = {software, "give a range buffer of 16 bytes for each level"},
+    [PAT_REFUSED_SPENT] = {anchor, "format a card under a new key, and write the rounds there"},
+    [PAT_REFUSED_TAG] = {holder, "put back the card as format or the last write left it"},
+};
+
+// The blocks under a node.
+static void describe_node(char *text, const struct situation *s) {
+    uint64_t node = pat_node(s->answer), leaves = (uint64_t)1 << s->depth, count = 1;
+    while (node * count < leaves)
+        count *= 2;
+    uint64_t first = node * count - leaves;
+    if (count == 1)
+        snprintf(text, LONGEST, "the tag of node %" PRIu64 ", block %" PRIu64 ", is wrong", node,
+                 first);
+    else
+        snprintf(text, LONGEST,
+                 "the tag of node %" PRIu64 ", over blocks %" PRIu64 " to %" PRIu64 ", is wrong",
+                 node, first, first + count - 1);
+}
+
+static void describe_length(char *text, const struct situation *s) {
+    bool of_anchor = s->anchor_len != PAT_ANCHOR_BYTES;
+    size_t length = of_anchor ? s->anchor_len : s->block_len;
+    size_t right = of_anchor ? PAT_ANCHOR_BYTES : PAT_BLOCK_BYTES;
+    const char *what = of_anchor ? "the anchor file" : "the new block";
+    if (length > right)
+        snprintf(text, LONGEST, "%s has more than %zu bytes", what, right);
+    else
+        snprintf(text, LONGEST, "%s has %zu bytes, and not %zu", what, length, right);
+}
+
+static void describe_card(char *text, const struct situation *s) {
+    size_t right = pat_card_bytes(s->depth);
+    if (s->card_len > pat_card_bytes(PAT_MAX_DEPTH))
+        snprintf(text, LONGEST, "the card image is longer than any card");
+    else
+        snprintf(text, LONGEST,
+                 "the card image has %zu bytes, and a card of depth %" PRIu64 " has %zu",
+                 s->card_len, s->depth, right);
+}
+
+static void describe(char *text, const struct situation *s) {
+    switch (pat_refusal(s->answer)) {
+    case PAT_REFUSED_DEPTH:
+        snprintf(text, LONGEST, "the depth is %" PRIu64 ", and not 1 to 16", s->depth);
+        break;
+    case PAT_REFUSED_ROOT_NONCE:
+        snprintf(text, LONGEST,
+                 "the root nonce T is %" PRIu64 ", no multiple of the depth %" PRIu64, s->root,
+                 s->depth);
+        break;
+    case PAT_REFUSED_CARD_LENGTH:
+        describe_card(text, s);
+        break;
+    case PAT_REFUSED_BLOCK_NUMBER:
+        snprintf(text, LONGEST, "there is no block %" PRIu64 ": the last one is %" PRIu64, s->index,
+                 ((uint64_t)1 << s->depth) - 1);
+        break;
+    case PAT_REFUSED_LENGTH:
+        describe_length(text, s);
+        break;
+    case PAT_REFUSED_SPENT:
+        snprintf(text, LONGEST, "the root nonces are used up: T is %" PRIu64, s->root);
+        break;
+    case PAT_REFUSED_TAG:
+        describe_node(text, s);
+        break;
+    default:
+        snprintf(text, LONGEST, "the range buffer is too short");
+    }
+}
+
+// More on a wrong tag: a block alone can be replaced, and both children of the root change with
+// every write.
+static void advise_on_tag(char *text, const struct situation *s) {
+    uint64_t node = pat_node(s->answer), leaves = (uint64_t)1 << s->depth;
+    const char *plain = remedies[PAT_REFUSED_TAG].advice;
+    if (node >= leaves)
+        snprintf(text, LONGEST, "%s, or write block %" PRIu64 " again", plain, node - leaves);
+    else if (node < 4)
+        snprintf(text, LONGEST, "%s; a card of another time than its anchor is refused here",
+                 plain);
+    else
+        snprintf(text, LONGEST, "%s", plain);
+}
+
+int explain_refusal(const struct request *request, const struct situation *s) {
+    unsigned number = pat_refusal(s->answer);
+    if (number == 0 || number >= sizeof remedies / sizeof *remedies)
+        return failure(request, STATUS_LIBRARY, "the library gave an unknown answer, %" PRIu64,
+                       s->answer);
+    char meaning[LONGEST], advice[LONGEST];
+    struct remedy remedy = remedies[number];
+    describe(meaning, s);
+    if (number == PAT_REFUSED_TAG) {
+        advise_on_tag(advice, s);
+        remedy.advice = advice;
+    }
+    return refusal_failure(request, s->answer, meaning, &remedy);
+}

@@ -1,0 +1,87 @@
+// Shows what an anchor file says, except its key, and whether a card image has the length for it.
+#include "anchor.h"
+#include "card.h"
+#include "commands.h"
+#include "json.h"
+#include "refusal.h"
+#include "report.h"
+
+#include <inttypes.h>
+#include <stdio.h>
+
+// The limits that do not need a tag, as every call tests them.
+static uint64_t limit(const struct situation *s, bool with_card) {
+    if (s->anchor_len != PAT_ANCHOR_BYTES)
+        return PAT_REFUSED_LENGTH;
+    if (pat_card_bytes(s->depth) == 0)
+        return PAT_REFUSED_DEPTH;
+    if (s->root % s->depth != 0)
+        return PAT_REFUSED_ROOT_NONCE;
+    if (with_card && s->card_len != pat_card_bytes(s->depth))
+        return PAT_REFUSED_CARD_LENGTH;
+    return 0;
+}
+
+static int report(const struct request *request, const struct situation *s) {
+    uint64_t blocks = (uint64_t)1 << s->depth, writes = s->root / s->depth;
+    size_t bytes = pat_card_bytes(s->depth);
+    if (request->options[OPTION_JSON] == NULL) {
+        printf("depth         %" PRIu64 "\n", s->depth);
+        printf("blocks        %" PRIu64 ", numbers 0 to %" PRIu64 "\n", blocks, blocks - 1);
+        printf("root nonce T  %" PRIu64 "\n", s->root);
+        printf("writes made   %" PRIu64 "\n", writes);
+        printf("card size     %zu bytes\n", bytes);
+        return finish_output(request);
+    }
+    json_open("show", 0);
+    json_number("depth", s->depth);
+    json_number("blocks", blocks);
+    json_number("root_nonce", s->root);
+    json_number("writes", writes);
+    json_number("card_bytes", bytes);
+    json_close();
+    return finish_output(request);
+}
+
+static int run_show(const struct request *request) {
+    struct anchor anchor;
+    bool with_card = request->word_count == 2;
+    int status = anchor_open(request, &anchor, SHARED);
+    if (status != 0)
+        return status;
+    struct situation situation = {
+        .depth = anchor_depth(&anchor), .root = anchor_root(&anchor), .anchor_len = anchor.length};
+    if (with_card) {
+        struct card card;
+        status = card_open(request, &card, TO_READ);
+        if (status == 0) {
+            situation.card_len = card.length;
+            card_close(&card);
+        }
+    }
+    anchor_close(&anchor);
+    if (status != 0)
+        return status;
+    situation.answer = limit(&situation, with_card);
+    return situation.answer == 0 ? report(request, &situation)
+                                 : explain_refusal(request, &situation);
+}
+
+static const char help[] =
+    "usage: roundcard show [--json] ANCHOR [CARD]\n"
+    "\n"
+    "Shows the depth, the root nonce T, the number of writes made and the size of the\n"
+    "card that an anchor file is for. It never shows the key. With a card image, it also\n"
+    "sees whether the image has that size; it checks no tag.\n"
+    "\n"
+    "  --json  report as a JSON object\n"
+    "\n"
+    "Refused 5: the anchor file has not 32 bytes. 1: depth. 2: T. 3: card length.\n";
+
+const struct command show_command = {
+    .name = "show",
+    .help = help,
+    .fewest_words = 1,
+    .most_words = 2,
+    .run = run_show,
+};
