@@ -9,6 +9,9 @@ help:
 	@echo 'make check     every test, then the gate: every proof, must-fail edit and program'
 	@echo 'make test      the tests alone'
 	@echo 'make bench     the speed of the proved code against other implementations'
+	@echo 'make demo      the command-line tool on a card image that somebody alters'
+	@echo 'make install   the library, its header and the tool into PREFIX, under DESTDIR if given'
+	@echo 'make host-test the tests of the C side: header, calls, tool, installation'
 	@echo 'make clean     remove what was built'
 
 vectors:
@@ -30,3 +33,5 @@ bench: archives
 
 clean:
 	rm -rf target
+
+include host/host.mk

@@ -1,0 +1,95 @@
+# The host side: the tool, its tests, the demonstration and the installation. The main Makefile includes it and runs at the root.
+PAT_ARCHIVE ?= target/staticlib/libpat.a
+PAT_VERSION = 0.1.0
+
+PREFIX ?= /usr/local
+BINDIR ?= $(PREFIX)/bin
+LIBDIR ?= $(PREFIX)/lib
+INCLUDEDIR ?= $(PREFIX)/include
+
+HOST_OUT = target/host
+HOST_CC ?= gcc
+HOST_CXX ?= g++
+HOST_FLAGS = -std=c11 -O2 -Wall -Wextra -Wpedantic -Werror -Wconversion -Wshadow
+HOST_SYSTEM = -Ihost -D_DEFAULT_SOURCE -D_XOPEN_SOURCE=700
+HOST_SANITIZE = -g -fsanitize=address,undefined -fno-sanitize-recover=all
+
+TOOL_SOURCES = $(wildcard host/roundcard/*.c)
+TOOL_NEEDS = $(TOOL_SOURCES) $(wildcard host/roundcard/*.h) host/pat.h host/host.mk $(PAT_ARCHIVE)
+TOOL_BUILD = $(HOST_CC) $(HOST_FLAGS) $(HOST_SYSTEM) -DVERSION='"$(PAT_VERSION)"'
+
+TEST_SOURCES = $(wildcard host/tests/calls/*.c)
+TEST_NEEDS = $(TEST_SOURCES) $(wildcard host/tests/calls/*.h) host/pat.h host/host.mk $(PAT_ARCHIVE)
+TEST_BUILD = $(HOST_CC) $(HOST_FLAGS) $(HOST_SYSTEM) -g
+
+.PHONY: roundcard demo install host-test host-headers host-symbols host-calls host-trees host-tool host-installed FORCE
+
+roundcard: $(HOST_OUT)/roundcard
+
+# rt proves what goes into the archive. An archive from elsewhere is taken as it is.
+ifeq ($(PAT_ARCHIVE),target/staticlib/libpat.a)
+$(PAT_ARCHIVE): FORCE
+	rt staticlib pat
+endif
+
+$(HOST_OUT)/roundcard: $(TOOL_NEEDS)
+	@mkdir -p $(@D)
+	$(TOOL_BUILD) $(TOOL_SOURCES) $(PAT_ARCHIVE) -o $@
+
+$(HOST_OUT)/sanitized/roundcard: $(TOOL_NEEDS)
+	@mkdir -p $(@D)
+	$(TOOL_BUILD) $(HOST_SANITIZE) $(TOOL_SOURCES) $(PAT_ARCHIVE) -o $@
+
+$(HOST_OUT)/calls: $(TEST_NEEDS)
+	@mkdir -p $(@D)
+	$(TEST_BUILD) $(TEST_SOURCES) $(PAT_ARCHIVE) -o $@
+
+$(HOST_OUT)/sanitized/calls: $(TEST_NEEDS)
+	@mkdir -p $(@D)
+	$(TEST_BUILD) $(HOST_SANITIZE) $(TEST_SOURCES) $(PAT_ARCHIVE) -o $@
+
+$(HOST_OUT)/faults.so: host/tests/tool/faults.c
+	@mkdir -p $(@D)
+	$(HOST_CC) $(HOST_FLAGS) -D_GNU_SOURCE -shared -fPIC $< -o $@
+
+demo: $(HOST_OUT)/roundcard
+	host/demo.sh $<
+
+install: $(HOST_OUT)/roundcard
+	install -d $(DESTDIR)$(BINDIR) $(DESTDIR)$(LIBDIR)/pkgconfig $(DESTDIR)$(INCLUDEDIR)
+	install -m 755 $(HOST_OUT)/roundcard $(DESTDIR)$(BINDIR)/roundcard
+	install -m 644 $(PAT_ARCHIVE) $(DESTDIR)$(LIBDIR)/libpat.a
+	install -m 644 host/pat.h $(DESTDIR)$(INCLUDEDIR)/pat.h
+	sed -e 's|@PREFIX@|$(PREFIX)|' -e 's|@LIBDIR@|$(LIBDIR)|' -e 's|@INCLUDEDIR@|$(INCLUDEDIR)|' -e 's|@VERSION@|$(PAT_VERSION)|' \
+	    host/pat.pc.in > $(HOST_OUT)/pat.pc
+	install -m 644 $(HOST_OUT)/pat.pc $(DESTDIR)$(LIBDIR)/pkgconfig/pat.pc
+
+host-test: host-headers host-symbols host-calls host-trees host-tool host-installed demo
+
+# The header in C and C++, and its attributes.
+host-headers: $(PAT_ARCHIVE)
+	CC='$(HOST_CC)' CXX='$(HOST_CXX)' host/tests/headers.sh $(PAT_ARCHIVE)
+
+# What the archive offers and needs.
+host-symbols: $(PAT_ARCHIVE)
+	host/tests/symbols.sh $(PAT_ARCHIVE)
+
+# The calls: on fenced pages, then under the sanitizers and under valgrind.
+host-calls: $(HOST_OUT)/calls $(HOST_OUT)/sanitized/calls
+	python3 host/tests/known.py | cmp - host/tests/calls/known.h
+	$(HOST_OUT)/calls
+	PAT_TEST_EXACT=1 $(HOST_OUT)/sanitized/calls
+	host/tests/valgrind.sh $(HOST_OUT)/calls
+
+# The benchmark's tree in plain C, over the CMACs of other libraries, beside the calls.
+host-trees: $(PAT_ARCHIVE)
+	CC='$(HOST_CC)' bench/c/agree.sh $(PAT_ARCHIVE)
+
+# The tool on files, and the same with its memory watched.
+host-tool: $(HOST_OUT)/roundcard $(HOST_OUT)/sanitized/roundcard $(HOST_OUT)/faults.so
+	ROUNDCARD=$(HOST_OUT)/roundcard FAULTS=$(HOST_OUT)/faults.so python3 -m unittest discover -s host/tests/tool
+	ROUNDCARD=$(HOST_OUT)/sanitized/roundcard python3 -m unittest discover -s host/tests/tool
+
+# What make install leaves, used as somebody else would.
+host-installed: $(HOST_OUT)/roundcard
+	CC='$(HOST_CC)' MAKE='$(MAKE)' host/tests/installed.sh $(PAT_ARCHIVE)
