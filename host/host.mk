@@ -48,6 +48,11 @@ $(HOST_OUT)/sanitized/calls: $(TEST_NEEDS)
 	@mkdir -p $(@D)
 	$(TEST_BUILD) $(HOST_SANITIZE) $(TEST_SOURCES) $(PAT_ARCHIVE) -o $@
 
+# The tool over a library that answers anything.
+$(HOST_OUT)/odd: $(TOOL_NEEDS) host/tests/tool/odd.c
+	@mkdir -p $(@D)
+	$(TOOL_BUILD) $(TOOL_SOURCES) host/tests/tool/odd.c -o $@
+
 $(HOST_OUT)/faults.so: host/tests/tool/faults.c
 	@mkdir -p $(@D)
 	$(HOST_CC) $(HOST_FLAGS) -D_GNU_SOURCE -shared -fPIC $< -o $@
@@ -76,7 +81,7 @@ host-symbols: $(PAT_ARCHIVE)
 
 # The calls: on fenced pages, then under the sanitizers and under valgrind.
 host-calls: $(HOST_OUT)/calls $(HOST_OUT)/sanitized/calls
-	python3 host/tests/known.py | cmp - host/tests/calls/known.h
+	python3 -B host/tests/known.py | cmp - host/tests/calls/known.h
 	$(HOST_OUT)/calls
 	PAT_TEST_EXACT=1 $(HOST_OUT)/sanitized/calls
 	host/tests/valgrind.sh $(HOST_OUT)/calls
@@ -86,9 +91,9 @@ host-trees: $(PAT_ARCHIVE)
 	CC='$(HOST_CC)' bench/c/agree.sh $(PAT_ARCHIVE)
 
 # The tool on files, and the same with its memory watched.
-host-tool: $(HOST_OUT)/roundcard $(HOST_OUT)/sanitized/roundcard $(HOST_OUT)/faults.so
-	ROUNDCARD=$(HOST_OUT)/roundcard FAULTS=$(HOST_OUT)/faults.so python3 -m unittest discover -s host/tests/tool
-	ROUNDCARD=$(HOST_OUT)/sanitized/roundcard python3 -m unittest discover -s host/tests/tool
+host-tool: $(HOST_OUT)/roundcard $(HOST_OUT)/sanitized/roundcard $(HOST_OUT)/faults.so $(HOST_OUT)/odd
+	ROUNDCARD=$(HOST_OUT)/roundcard FAULTS=$(HOST_OUT)/faults.so ODD=$(HOST_OUT)/odd python3 -B -m unittest discover -s host/tests/tool
+	ROUNDCARD=$(HOST_OUT)/sanitized/roundcard python3 -B -m unittest discover -s host/tests/tool
 
 # What make install leaves, used as somebody else would.
 host-installed: $(HOST_OUT)/roundcard

@@ -20,9 +20,10 @@ from model import Card  # noqa: E402
 
 TOOL = Path(os.environ["ROUNDCARD"]).resolve()
 FAULTS = os.environ.get("FAULTS") and Path(os.environ["FAULTS"]).resolve()
+ODD = os.environ.get("ODD") and Path(os.environ["ODD"]).resolve()
 KEY = bytes(range(0x40, 0x50))
 NOBODY = 65534
-USAGE, DATA, FILE = 64, 65, 74
+USAGE, DATA, LIBRARY, FILE = 64, 65, 70, 74
 
 
 atexit.register(lambda: print(f"{TOOL.parent.name}/{TOOL.name}: {ToolCase.runs} runs", flush=True))
@@ -38,7 +39,8 @@ class ToolCase(unittest.TestCase):
 
     def setUp(self):
         self.room = Path(tempfile.mkdtemp(prefix="roundcard-"))
-        self.addCleanup(shutil.rmtree, self.room, ignore_errors=True)
+        self.addCleanup(shutil.rmtree, self.room)
+        self.addCleanup(self.room.chmod, 0o700)
         self.anchor, self.card = self.room / "box.anchor", self.room / "box.card"
 
     def tool(self, *words, **options):
@@ -97,13 +99,23 @@ class ToolCase(unittest.TestCase):
         self.assertEqual((report["command"], report["status"], report["accepted"]), (words[0], 0, True))
         return report
 
+    def bytes_of(self, path):
+        """A file's bytes, of one that its owner cannot read too."""
+        mode = stat.S_IMODE(path.stat().st_mode)
+        if mode & stat.S_IRUSR:
+            return path.read_bytes()
+        path.chmod(0o600)
+        data = path.read_bytes()
+        path.chmod(mode)
+        return data
+
     def files(self):
         """Every file of the folder: its kind and mode, owner and bytes."""
         found = {}
         for path in sorted(self.room.rglob("*")):
             status = path.lstat()
             regular = stat.S_ISREG(status.st_mode)
-            found[str(path)] = status.st_mode, status.st_uid, path.read_bytes() if regular else None
+            found[str(path)] = status.st_mode, status.st_uid, self.bytes_of(path) if regular else None
         return found
 
     def put(self, card):
@@ -125,6 +137,13 @@ class ToolCase(unittest.TestCase):
         self.assertEqual(self.anchor.read_bytes(), card.anchor())
         self.assertEqual(self.card.read_bytes(), bytes(card.bytes))
 
+    def give(self, path, user, group):
+        """Gives a file to somebody else."""
+        try:
+            os.chown(path, user, group)
+        except OSError as reason:
+            self.skipTest(f"files cannot be given away here: {reason}")
+
     def as_nobody(self):
         """Options for a run without a superuser's rights; the folder is given to that user."""
         if os.geteuid() != 0:
@@ -133,7 +152,7 @@ class ToolCase(unittest.TestCase):
         if not program.exists():
             shutil.copy(TOOL, program)
         for path in [self.room, *self.room.rglob("*")]:
-            os.chown(path, NOBODY, NOBODY)
+            self.give(path, NOBODY, NOBODY)
         return {"program": program, "user": NOBODY, "group": NOBODY, "extra_groups": []}
 
     def wait_behind_a_lock(self, kind, words, meanwhile):

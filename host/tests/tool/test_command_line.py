@@ -1,10 +1,11 @@
 """The command line and the help."""
 
 import json
+import os
 import re
 import unittest
 
-from support import USAGE, ToolCase
+from support import LIBRARY, ODD, USAGE, ToolCase
 
 COMMANDS = {
     "format": ["--depth", "--key-file", "--force"],
@@ -76,6 +77,24 @@ class CommandLine(ToolCase):
         self.fails(USAGE, "format", "a", "c", "--force", "--force", says=["--force is given twice"])
         self.fails(USAGE, "format", "a", "c", "--depth", says=["--depth needs a value"])
         self.fails(USAGE, "read", "a", "c", "1", "--hex=yes", says=["--hex takes no value"])
+
+    def test_json_behind_an_error(self):
+        for words in (["read", "--foo", "--json"], ["check", "a", "b", "c", "--json"], ["format", "--json"]):
+            done = self.tool(*words)
+            self.assertEqual((done.returncode, done.stderr), (USAGE, b""))
+            self.assertEqual(json.loads(done.stdout)["status"], USAGE)
+
+    @unittest.skipUnless(ODD, "the tool over a library that answers anything is tried beside the plain tool alone")
+    def test_answers_that_the_library_does_not_have(self):
+        self.made()
+        last = self.anchor, self.card
+        for answer in (9, 255, 256, 2**63, 2**64 - 1):
+            options = {"program": ODD, "env": dict(os.environ, ANSWER=str(answer))}
+            self.fails(LIBRARY, "read", *last, "1", says=[f"unknown answer, {answer}"], **options)
+            self.fails(LIBRARY, "write", *last, "1", "--text", "x", **options)
+            self.fails(LIBRARY, "check", *last, **options)
+            self.fails(LIBRARY, "format", "--depth=2", "a", "c", **options)
+        self.refused(6, "write", *last, "1", "--text", "x", program=ODD, env=dict(os.environ, ANSWER="6"))
 
     def test_json_as_another_options_value(self):
         self.made()

@@ -135,9 +135,7 @@ class Cuts(ToolCase):
         self.assertEqual(self.run_with(f"getrandom:1:{errno.EINTR}", "format", "--depth", "2", "a", "c").returncode, 0)
 
     def test_owner_that_cannot_be_kept(self):
-        if os.geteuid() != 0:
-            self.skipTest("only root can give a file away")
-        os.chown(self.anchor, 1234, 1234)
+        self.give(self.anchor, 1234, 1234)
         self.failing("fchown:1", errno.EPERM, *self.words)
         self.assertEqual(self.both(), self.old)
 

@@ -126,10 +126,12 @@ class Write(ToolCase):
         self.assertEqual(done.returncode, 0)
         self.assertIn(b"can be read by others", done.stderr)
         self.assertEqual(stat.S_IMODE(self.anchor.stat().st_mode), 0o600)
-        if os.geteuid() == 0:
-            os.chown(self.anchor, 1234, 1235)
-            self.write(2, "--text", "y", umask=0)
-            self.assertEqual((self.anchor.stat().st_uid, self.anchor.stat().st_gid), (1234, 1235))
+
+    def test_anchor_keeps_its_owner(self):
+        self.give(self.anchor, 1234, 1235)
+        self.write(2, "--text", "y", umask=0)
+        self.assertEqual((self.anchor.stat().st_uid, self.anchor.stat().st_gid), (1234, 1235))
+        self.assertEqual(stat.S_IMODE(self.anchor.stat().st_mode), 0o600)
 
     def test_anchor_behind_a_link(self):
         folder = self.room / "chip"
