@@ -104,11 +104,21 @@ static void advise_on_tag(char *text, const struct situation *s) {
         snprintf(text, LONGEST, "%s", plain);
 }
 
-int explain_refusal(const struct request *request, const struct situation *s) {
+// Whether the library can have given the answer: a node with 8 alone, and 4 and 8 at a good depth.
+static bool possible(const struct situation *s) {
     unsigned number = pat_refusal(s->answer);
     if (number == 0 || number >= sizeof remedies / sizeof *remedies)
+        return false;
+    bool deep = number == PAT_REFUSED_BLOCK_NUMBER || number == PAT_REFUSED_TAG;
+    return (number == PAT_REFUSED_TAG) == (pat_node(s->answer) != 0) &&
+           (!deep || pat_card_bytes(s->depth) != 0);
+}
+
+int explain_refusal(const struct request *request, const struct situation *s) {
+    if (!possible(s))
         return failure(request, STATUS_LIBRARY, "the library gave an unknown answer, %" PRIu64,
                        s->answer);
+    unsigned number = pat_refusal(s->answer);
     char meaning[LONGEST], advice[LONGEST];
     struct remedy remedy = remedies[number];
     describe(meaning, s);

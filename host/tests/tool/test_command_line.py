@@ -88,7 +88,7 @@ class CommandLine(ToolCase):
     def test_answers_that_the_library_does_not_have(self):
         self.made()
         last = self.anchor, self.card
-        for answer in (9, 255, 256, 2**63, 2**64 - 1):
+        for answer in (8, 9, 255, 256, 256 + 3, 2**63, 2**64 - 1):
             options = {"program": ODD, "env": dict(os.environ, ANSWER=str(answer))}
             self.fails(LIBRARY, "read", *last, "1", says=[f"unknown answer, {answer}"], **options)
             self.fails(LIBRARY, "write", *last, "1", "--text", "x", **options)
