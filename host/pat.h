@@ -149,6 +149,20 @@ uint64_t pat_write(uint8_t *anchor, size_t anchor_len, uint8_t *card, size_t car
 uint64_t pat_check(const uint8_t *anchor, size_t anchor_len, const uint8_t *card,
                    size_t card_len) PAT_CALL;
 
+// An anchor for code that keeps it in memory of its own, as boot code does: the same three things,
+// the numbers as the machine has them.
+struct pat_anchor {
+    uint8_t key[PAT_KEY_BYTES];
+    uint64_t depth;
+    uint64_t root;
+};
+
+// pat_write on such an anchor: an accepted write moves its root nonce where it lies. The answers are
+// the same, but for the length of the anchor, which is not tested.
+uint64_t pat_write_in_place(struct pat_anchor *anchor, uint8_t *card, size_t card_len,
+                            uint64_t index, const uint8_t *block, size_t block_len,
+                            uint8_t *ranges, size_t ranges_len) PAT_CALL;
+
 #ifdef __cplusplus
 }
 #endif

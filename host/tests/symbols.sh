@@ -3,7 +3,7 @@
 #   symbols.sh ARCHIVE
 set -eu
 archive=$1
-offered='pat_check pat_format pat_read pat_write'
+offered='pat_check pat_format pat_read pat_write pat_write_in_place'
 allowed='memcpy memset memmove memcmp bcmp'
 failed=0
 fail() {

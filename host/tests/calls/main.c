@@ -15,6 +15,7 @@ static const struct {
     {"refusals in their order", test_refusals},
     {"bytes and sets of tags altered", test_flips},
     {"histories against a plain array", test_histories},
+    {"the write in place against the write", test_in_place},
 };
 
 int main(void) {

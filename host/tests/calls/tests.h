@@ -8,5 +8,6 @@ void test_known(void);
 void test_refusals(void);
 void test_flips(void);
 void test_histories(void);
+void test_in_place(void);
 
 #endif
