@@ -1,17 +1,17 @@
-# The round store. `make check` is the whole test; `make vectors` runs the proved code on the published vectors.
+# The round store. `make demo` shows it; `make check` is the whole test.
 CARGO = cargo --offline
 ARCHIVES = probe_cipher probe_cmac pat
 
 .PHONY: help vectors archives test check bench clean
 
 help:
-	@echo 'make vectors   prove cipher and CMAC, and print the published vectors as the proved code computes them'
-	@echo 'make check     every test, then the gate: every proof, must-fail edit and program'
-	@echo 'make test      the tests alone'
-	@echo 'make bench     the speed of the proved code against other implementations'
 	@echo 'make demo      the command-line tool on a card image that somebody alters'
+	@echo 'make check     every test, then the gate: every proof, must-fail edit and program'
+	@echo 'make test      the tests in Rust alone'
+	@echo 'make host-test the tests of the C side alone: header, calls, tool, installation'
 	@echo 'make install   the library, its header and the tool into PREFIX, under DESTDIR if given'
-	@echo 'make host-test the tests of the C side: header, calls, tool, installation'
+	@echo 'make bench     the speed of the proved code against other implementations'
+	@echo 'make vectors   prove cipher and CMAC, and print the published vectors as the proved code computes them'
 	@echo 'make clean     remove what was built'
 
 vectors:
@@ -25,7 +25,7 @@ archives:
 test: archives
 	$(CARGO) test
 
-check: test
+check: test host-test
 	rt ci
 
 bench: archives
