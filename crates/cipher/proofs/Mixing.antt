@@ -1,15 +1,19 @@
 -- A column of a round, from four entries of the table.
-use mathlib.Core.Path.{_≡_, refl, ap, ap₂, _∙_}
+use mathlib.Core.Path.{_≡_, refl, sym, ap, ap₂, _∙_}
 use mathlib.Core.List.{List}
-use Prim.Native.Nat.{ℕ, _/_, _%_, _<_}
+use Prim.Native.Nat.{ℕ, _+_, _*_, _≤_, _<_}
+use native.Mathlib.Nat.{add-zero}
+use native.Mathlib.Omega.{arith}
 use lib.Bits.{bitXor}
+use lib.ListN.{drop}
+use lib.Seq.{getD-take, getD-drop}
 use Rattle.words.specs.Bytes.{at, part}
 use Rattle.cipher.specs.KeyExpansion.{xorWord}
 use Rattle.cipher.specs.SBox.{sBox}
 use Rattle.cipher.specs.State.{mixRow, mixColumn}
-use Rattle.cipher.specs.Tables.{IsRoundTable}
+use Rattle.cipher.specs.Tables.{entry, IsRoundTable}
 use Rattle.words.specs.Words.{bytes}
-use Rattle.words.proofs.Bytes.{xors, bytes-xor}
+use Rattle.words.proofs.Bytes.{part-part, xors, bytes-xor}
 
 pub xor-words : (v w : ℕ) {l m : List ℕ} → bytes 4 v ≡ l → bytes 4 w ≡ m → bytes 4 (bitXor v w) ≡ xors l m
 xor-words v w p q = bytes-xor 4 v w ∙ ap₂ xors p q
@@ -18,19 +22,20 @@ pub word-xor : (v w : ℕ) {l : List ℕ} → bytes 4 v ≡ l → bytes 4 (bitXo
 word-xor v w p = xor-words v w p refl
 
 module _ (t : List ℕ) (rule : IsRoundTable t) where
-  -- byte 1 of an entry is the substitution
-  pub substitution-at : (b : ℕ) → b < 256 → at t b / 256 % 256 ≡ sBox b
+  -- a part of an entry
+  pub entry-part : (b o n : ℕ) → b < 256 → o + n ≤ 8 → part t (8 * b + o) n ≡ part (entry b) o n
   unfolding IsRoundTable
-  substitution-at b h = ap (λ (l : List ℕ). at l 1) (rule b h)
+  entry-part b o n h l = sym (part-part t (8 * b) 8 o n l) ∙ ap (λ (e : List ℕ). part e o n) (rule b h)
 
-  pub mixed-word : (p q r s a b c d k : ℕ) → p < 256 → q < 256 → r < 256 → s < 256
-      → bytes 4 a ≡ part (bytes 8 (at t p)) 0 4 → bytes 4 b ≡ part (bytes 8 (at t q)) 3 4
-      → bytes 4 c ≡ part (bytes 8 (at t r)) 2 4 → bytes 4 d ≡ part (bytes 8 (at t s)) 1 4
-      → bytes 4 (bitXor (bitXor (bitXor (bitXor a b) c) d) k) ≡ xorWord (mixColumn (sBox p) (sBox q) (sBox r) (sBox s)) (bytes 4 k)
-  unfolding IsRoundTable xorWord mixRow
-  mixed-word p q r s a b c d k hp hq hr hs ea eb ec ed =
-      let a' = ea ∙ ap (λ (l : List ℕ). part l 0 4) (rule p hp) in
-      let b' = eb ∙ ap (λ (l : List ℕ). part l 3 4) (rule q hq) in
-      let c' = ec ∙ ap (λ (l : List ℕ). part l 2 4) (rule r hr) in
-      let d' = ed ∙ ap (λ (l : List ℕ). part l 1 4) (rule s hs) in
-      word-xor (bitXor (bitXor (bitXor a b) c) d) k (xor-words (bitXor (bitXor a b) c) d (xor-words (bitXor a b) c (xor-words a b a' b') c') d')
+  -- byte 1 of an entry is the substitution
+  pub substitution-at : (b : ℕ) → b < 256 → at t (8 * b + 1) ≡ sBox b
+  substitution-at b h = sym (getD-drop (8 * b + 1) t 0 0 ∙ simp add-zero) ∙ sym (getD-take 1 (drop (8 * b + 1) t) 0 0 (omega arith))
+      ∙ ap (λ (l : List ℕ). at l 0) (entry-part b 1 1 h (omega arith))
+
+pub mixed-word : (p q r s a b c d k : ℕ)
+    → bytes 4 a ≡ part (entry p) 0 4 → bytes 4 b ≡ part (entry q) 3 4
+    → bytes 4 c ≡ part (entry r) 2 4 → bytes 4 d ≡ part (entry s) 1 4
+    → bytes 4 (bitXor (bitXor (bitXor (bitXor a b) c) d) k) ≡ xorWord (mixColumn (sBox p) (sBox q) (sBox r) (sBox s)) (bytes 4 k)
+unfolding xorWord mixRow
+mixed-word p q r s a b c d k ea eb ec ed =
+    word-xor (bitXor (bitXor (bitXor a b) c) d) k (xor-words (bitXor (bitXor a b) c) d (xor-words (bitXor a b) c (xor-words a b ea eb) ec) ed)

@@ -2,16 +2,15 @@
 use mathlib.Core.Path.{_≡_, refl}
 use mathlib.Core.Bool.{Bool, true, false}
 use mathlib.Core.List.{List, _++_}
-use Prim.Native.Nat.{ℕ, _+_, _<_}
+use Prim.Native.Nat.{ℕ, _+_, _*_, _<_}
 use lib.Dec.{T, eqb, eqb→eq}
 use lib.ListN.{length}
-use Rattle.words.specs.Bytes.{at, same}
+use Rattle.words.specs.Bytes.{at, part, same}
 use Rattle.cipher.specs.KeyExpansion.{roundConstant}
 use Rattle.cipher.specs.SBox.{sBox}
-use Rattle.cipher.specs.Tables.{IsSBox, mixedColumn, IsRoundTable}
-use Rattle.words.specs.Words.{bytes}
+use Rattle.cipher.specs.Tables.{IsSBox, mixedColumn, entry, IsRoundTable}
 use Rattle.words.proofs.Same.{same-is}
-use Rattle.cipher.proofs.Every.{every, every-at}
+use Rattle.cipher.proofs.Every.{every, every-at, everyEight, eight-at}
 
 abbrev pub substitutes : ℕ → ℕ → Bool
 substitutes b x = eqb x (sBox b)
@@ -32,11 +31,11 @@ is-true : (b : Bool) → T b → b ≡ true
 is-true true t = refl
 is-true false t = absurd t
 
-unfoldable pub mixes : ℕ → ℕ → Bool
-mixes b x = let m = mixedColumn (sBox b) in same (bytes 8 x) (m ++ m)
+unfoldable pub mixes : ℕ → List ℕ → Bool
+mixes b x = let m = mixedColumn (sBox b) in same x (m ++ m)
 
-pub is-round-table : (t : List ℕ) → length t ≡ 256 → T (every mixes 0 t) → IsRoundTable t
+pub is-round-table : (t : List ℕ) → T (everyEight mixes 256 0 t) → IsRoundTable t
 unfolding IsRoundTable mixes
-is-round-table t n p b h =
-    let m = mixedColumn (sBox b) in
-    same-is (bytes 8 (at t b)) (m ++ m) (is-true (same (bytes 8 (at t b)) (m ++ m)) (every-at mixes t p b (rw n h)))
+is-round-table t p b h =
+    let x = part t (8 * b) 8 in
+    same-is x (entry b) (is-true (same x (entry b)) (eight-at mixes 256 t p b h))

@@ -1,11 +1,10 @@
 -- What the two tables hold.
 use mathlib.Core.Path.{_≡_}
 use mathlib.Core.List.{List, [], _∷_, _++_}
-use Prim.Native.Nat.{ℕ, _<_}
-use Rattle.words.specs.Bytes.{at}
+use Prim.Native.Nat.{ℕ, _*_, _<_}
+use Rattle.words.specs.Bytes.{at, part}
 use Rattle.cipher.specs.Field.{times}
 use Rattle.cipher.specs.SBox.{sBox}
-use Rattle.words.specs.Words.{bytes}
 
 -- the substitution of each byte
 unfoldable pub IsSBox : List ℕ → Type 0
@@ -15,6 +14,10 @@ IsSBox s = (b : ℕ) → b < 256 → at s b ≡ sBox b
 abbrev pub mixedColumn : ℕ → List ℕ
 mixedColumn s = times 2 s ∷ s ∷ s ∷ times 3 s ∷ []
 
--- for each byte, the column that mixing makes of its substitution in row 0, twice in a row
+-- the entry of a byte: the column that mixing makes of its substitution in row 0, twice in a row
+abbrev pub entry : ℕ → List ℕ
+entry b = mixedColumn (sBox b) ++ mixedColumn (sBox b)
+
+-- the entry of each byte, one after the other
 unfoldable pub IsRoundTable : List ℕ → Type 0
-IsRoundTable t = (b : ℕ) → b < 256 → bytes 8 (at t b) ≡ mixedColumn (sBox b) ++ mixedColumn (sBox b)
+IsRoundTable t = (b : ℕ) → b < 256 → part t (8 * b) 8 ≡ entry b

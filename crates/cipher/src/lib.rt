@@ -12,7 +12,7 @@ ghost use Rattle.cipher.specs.Tables.{IsRoundTable};
 ghost use Rattle.words.specs.Words.{blockOf};
 
 // One block under the expanded key w.
-pub fn encrypt(t: &[u64; 256], w: &[u8; 176], input: Block) -> Block
+pub fn encrypt(t: &[u8; 2048], w: &[u8; 176], input: Block) -> Block
     requires { ⌜ IsRoundTable (now t) ⌝ }
     ensures { λ r. ⌜ blockOf r ≡ cipherOf (now (w .entry)) (blockOf input) ⌝ }
 {

@@ -2,62 +2,46 @@
 use words::Columns;
 ghost use mathlib.Core.Path.{_≡_};
 ghost use mathlib.Core.List.{[], _∷_};
-ghost use Prim.Native.Nat.{_<_};
+ghost use Prim.Native.Nat.{_≤_, _<_};
 ghost use Rattle.words.specs.Bytes.{at, part};
 ghost use Rattle.cipher.specs.KeyExpansion.{xorWord};
 ghost use Rattle.cipher.specs.SBox.{sBox};
 ghost use Rattle.cipher.specs.State.{subBytes, shiftRows, mixColumn, mixColumns, addRoundKey};
-ghost use Rattle.cipher.specs.Tables.{IsRoundTable};
+ghost use Rattle.cipher.specs.Tables.{entry, IsRoundTable};
 ghost use Rattle.words.specs.Words.{bytes, stateOf};
 
-// The column that the byte of an entry makes in row 0, 1, 2 or 3: the entry, which has it twice, from byte 0, 3, 2 or 1.
-fn row0(e: u64) -> u32
-    ensures { λ r. ⌜ bytes 4 r ≡ part (bytes 8 e) 0 4 ⌝ }
+// Four bytes of the entry of b from its byte o. From byte 0, 3, 2 or 1 they are the column that b makes in row 0, 1, 2 or 3.
+fn window(t: &[u8; 2048], b: usize, o: usize) -> u32
+    requires { ⌜ IsRoundTable (now t) ⌝ }
+    requires { ⌜ (b < 256) × (o ≤ 4) ⌝ }
+    ensures { λ r. ⌜ bytes 4 r ≡ part (entry b) o 4 ⌝ }
 {
-    (e % 4294967296) as u32
-}
-
-fn row1(e: u64) -> u32
-    ensures { λ r. ⌜ bytes 4 r ≡ part (bytes 8 e) 3 4 ⌝ }
-{
-    (e / 16777216 % 4294967296) as u32
-}
-
-fn row2(e: u64) -> u32
-    ensures { λ r. ⌜ bytes 4 r ≡ part (bytes 8 e) 2 4 ⌝ }
-{
-    (e / 65536 % 4294967296) as u32
-}
-
-fn row3(e: u64) -> u32
-    ensures { λ r. ⌜ bytes 4 r ≡ part (bytes 8 e) 1 4 ⌝ }
-{
-    (e / 256 % 4294967296) as u32
+    words::word_at(t, 8 * b + o)
 }
 
 // The substitution of a byte: byte 1 of its entry.
-fn substituted(t: &[u64; 256], b: usize) -> u8
+fn substituted(t: &[u8; 2048], b: usize) -> u8
     requires { ⌜ IsRoundTable (now t) ⌝ }
     requires { ⌜ b < 256 ⌝ }
     ensures { λ r. ⌜ r ≡ sBox b ⌝ }
 {
-    (t[b] / 256 % 256) as u8
+    t[8 * b + 1]
 }
 
 // A column of a round, of the four columns that shifting the rows brings to it, and its key.
-fn mixed(t: &[u64; 256], a: u32, b: u32, c: u32, d: u32, k: u32) -> u32
+fn mixed(t: &[u8; 2048], a: u32, b: u32, c: u32, d: u32, k: u32) -> u32
     requires { ⌜ IsRoundTable (now t) ⌝ }
     ensures { λ r. ⌜ bytes 4 r ≡ xorWord (mixColumn (sBox (at (bytes 4 a) 0)) (sBox (at (bytes 4 b) 1)) (sBox (at (bytes 4 c) 2)) (sBox (at (bytes 4 d) 3))) (bytes 4 k) ⌝ }
 {
-    row0(t[words::byte0(a)])
-        ^ row1(t[words::byte1(b)])
-        ^ row2(t[words::byte2(c)])
-        ^ row3(t[words::byte3(d)])
+    window(t, words::byte0(a), 0)
+        ^ window(t, words::byte1(b), 3)
+        ^ window(t, words::byte2(c), 2)
+        ^ window(t, words::byte3(d), 1)
         ^ k
 }
 
 // The same in the last round, which does not mix.
-fn unmixed(t: &[u64; 256], a: u32, b: u32, c: u32, d: u32, k: u32) -> u32
+fn unmixed(t: &[u8; 2048], a: u32, b: u32, c: u32, d: u32, k: u32) -> u32
     requires { ⌜ IsRoundTable (now t) ⌝ }
     ensures { λ r. ⌜ bytes 4 r ≡ xorWord (sBox (at (bytes 4 a) 0) ∷ sBox (at (bytes 4 b) 1) ∷ sBox (at (bytes 4 c) 2) ∷ sBox (at (bytes 4 d) 3) ∷ []) (bytes 4 k) ⌝ }
 {
@@ -71,7 +55,7 @@ fn unmixed(t: &[u64; 256], a: u32, b: u32, c: u32, d: u32, k: u32) -> u32
 }
 
 // A round with the key k.
-pub fn whole(t: &[u64; 256], k: Columns, s: Columns) -> Columns
+pub fn whole(t: &[u8; 2048], k: Columns, s: Columns) -> Columns
     requires { ⌜ IsRoundTable (now t) ⌝ }
     ensures { λ r. ⌜ stateOf r ≡ addRoundKey (mixColumns (shiftRows (subBytes (stateOf s)))) (stateOf k) ⌝ }
 {
@@ -84,7 +68,7 @@ pub fn whole(t: &[u64; 256], k: Columns, s: Columns) -> Columns
 }
 
 // The last round, with the key k.
-pub fn last(t: &[u64; 256], k: Columns, s: Columns) -> Columns
+pub fn last(t: &[u8; 2048], k: Columns, s: Columns) -> Columns
     requires { ⌜ IsRoundTable (now t) ⌝ }
     ensures { λ r. ⌜ stateOf r ≡ addRoundKey (shiftRows (subBytes (stateOf s))) (stateOf k) ⌝ }
 {

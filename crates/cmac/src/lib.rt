@@ -16,7 +16,7 @@ pub struct Context {
 }
 
 // The context of a key.
-pub fn context_of(t: &[u64; 256], key: [u8; 16]) -> Context
+pub fn context_of(t: &[u8; 2048], key: [u8; 16]) -> Context
     requires { ⌜ IsRoundTable (now t) ⌝ }
     ensures { λ r. ⌜ ContextOf key r ⌝ }
 {
@@ -30,7 +30,7 @@ pub fn context_of(t: &[u64; 256], key: [u8; 16]) -> Context
 }
 
 // The tag of a message, as 16 bytes.
-pub fn tag<'a>(t: &[u64; 256], w: &'a [u8; 176], k: &'a [u8; 32], m: &[u8]) -> [u8; 16]
+pub fn tag<'a>(t: &[u8; 2048], w: &'a [u8; 176], k: &'a [u8; 32], m: &[u8]) -> [u8; 16]
     requires { ⌜ IsRoundTable (now t) ⌝ }
     ensures { λ r. ⌜ r ≡ tagUnder (now (w .entry)) (now (k .entry)) (now (m .entry)) ⌝ }
 {
@@ -39,7 +39,7 @@ pub fn tag<'a>(t: &[u64; 256], w: &'a [u8; 176], k: &'a [u8; 32], m: &[u8]) -> [
 
 // The tag of a message, as a block. One loop takes every block, the last one with its subkey, so that the cipher has one call and the
 // state stays in registers.
-pub fn tag_block<'a>(t: &[u64; 256], w: &'a [u8; 176], k: &'a [u8; 32], m: &[u8]) -> Block
+pub fn tag_block<'a>(t: &[u8; 2048], w: &'a [u8; 176], k: &'a [u8; 32], m: &[u8]) -> Block
     requires { ⌜ IsRoundTable (now t) ⌝ }
     ensures { λ r. ⌜ blockOf r ≡ tagUnder (now (w .entry)) (now (k .entry)) (now (m .entry)) ⌝ }
 {

@@ -11,7 +11,7 @@ ghost use Rattle.words.specs.Words.{blockOf};
 ghost use Rattle.cmac.specs.Cmac.{double, subkey1, subkey2};
 
 // Both subkeys, one after the other. While they are not known zeros stand for them: the tag of the zero block is then its cipher.
-pub fn both(t: &[u64; 256], w: &[u8; 176]) -> [u8; 32]
+pub fn both(t: &[u8; 2048], w: &[u8; 176]) -> [u8; 32]
     requires { ⌜ IsRoundTable (now t) ⌝ }
     ensures { λ r. ⌜ r ≡ subkey1 (cipherOf (now (w .entry))) ++ subkey2 (cipherOf (now (w .entry))) ⌝ }
 {

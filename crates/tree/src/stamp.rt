@@ -38,7 +38,7 @@ fn put_label(n: u64, card: &mut [u8], u: Node, nonce: Nonce, block: &[u8])
 
 // Puts the tag of u, for its label on the card and its parent's label p.
 fn put_tag<'a>(
-    t: &[u64; 256],
+    t: &[u8; 2048],
     w: &'a [u8; 176],
     k: &'a [u8; 32],
     n: u64,
@@ -60,7 +60,7 @@ fn put_tag<'a>(
 
 // Puts both.
 fn put_entry<'a>(
-    t: &[u64; 256],
+    t: &[u8; 2048],
     w: &'a [u8; 176],
     k: &'a [u8; 32],
     n: u64,
@@ -82,7 +82,7 @@ fn put_entry<'a>(
 
 // Every entry anew: all nonces t, all blocks zero.
 pub fn blank<'a>(
-    t: &[u64; 256],
+    t: &[u8; 2048],
     w: &'a [u8; 176],
     k: &'a [u8; 32],
     n: u64,
@@ -105,7 +105,7 @@ pub fn blank<'a>(
 
 // Block i anew, with the nonces after the last one used: u_y gets its label and its tag, its sibling the tag.
 pub fn block<'a>(
-    t: &[u64; 256],
+    t: &[u8; 2048],
     w: &'a [u8; 176],
     k: &'a [u8; 32],
     n: u64,

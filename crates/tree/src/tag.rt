@@ -18,7 +18,7 @@ ghost use Rattle.tree.specs.Tests.{passing};
 
 // The tag of a node that has the label x, its parent's label p, and that side.
 pub fn of<'a>(
-    t: &[u64; 256],
+    t: &[u8; 2048],
     w: &'a [u8; 176],
     k: &'a [u8; 32],
     x: &[u8],
@@ -40,7 +40,7 @@ pub fn of<'a>(
 
 // Whether it is the tag beside it.
 pub fn test<'a>(
-    t: &[u64; 256],
+    t: &[u8; 2048],
     w: &'a [u8; 176],
     k: &'a [u8; 32],
     x: &[u8],
@@ -74,7 +74,7 @@ pub fn nonce_at(n: u64, root: Nonce, card: &[u8], u: Node) -> u64
 
 // Whether the tag of u is right.
 pub fn node<'a>(
-    t: &[u64; 256],
+    t: &[u8; 2048],
     w: &'a [u8; 176],
     k: &'a [u8; 32],
     n: u64,

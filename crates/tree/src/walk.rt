@@ -18,7 +18,7 @@ ghost use Rattle.tree.specs.Calls.{verdict};
 
 // A read's: the path from level 1 down to the leaf.
 pub fn path<'a>(
-    t: &[u64; 256],
+    t: &[u8; 2048],
     w: &'a [u8; 176],
     k: &'a [u8; 32],
     n: u64,
@@ -44,7 +44,7 @@ pub fn path<'a>(
 
 // A write's: each node of the path and then its sibling, and of the last level the sibling alone.
 pub fn pairs<'a>(
-    t: &[u64; 256],
+    t: &[u8; 2048],
     w: &'a [u8; 176],
     k: &'a [u8; 32],
     n: u64,
@@ -79,7 +79,7 @@ pub fn pairs<'a>(
 
 // A check's: all, from 2 upwards.
 pub fn all<'a>(
-    t: &[u64; 256],
+    t: &[u8; 2048],
     w: &'a [u8; 176],
     k: &'a [u8; 32],
     n: u64,

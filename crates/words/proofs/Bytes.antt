@@ -8,13 +8,23 @@ use native.Mathlib.Omega.{arith}
 use lib.Arith.{mod-mul}
 use lib.Bits.{bitXor, xor-shr, xor-mod}
 use lib.ListN.{length, take, drop}
-use lib.Seq.{take-add, drop-drop, drop-cons}
+use lib.Seq.{take-take, take-add, drop-drop, drop-cons}
 use Rattle.words.specs.Bytes.{at, part}
 use Rattle.words.specs.Words.{bytes}
 
 -- a part is its first m bytes and the n after them
 pub part-add : (s : List ℕ) (o m n : ℕ) → part s o (m + n) ≡ part s o m ++ part s (o + m) n
 part-add s o m n = take-add m n (drop o s) ∙ ap (λ (l : List ℕ). part s o m ++ take n l) (drop-drop m o s)
+
+part-take : (s : List ℕ) (n k m : ℕ) → k + m ≤ n → part (take n s) k m ≡ part s k m
+part-take s n zero m h = take-take m n s (omega arith)
+part-take s zero (suc k) m h = absurd (omega arith)
+part-take [] (suc n) (suc k) m h = refl
+part-take (x ∷ s) (suc n) (suc k) m h = part-take s n k m (omega arith)
+
+-- a part of a part
+pub part-part : (s : List ℕ) (o n k m : ℕ) → k + m ≤ n → part (part s o n) k m ≡ part s (o + k) m
+part-part s o n k m h = part-take (drop o s) n k m h ∙ ap (take m) (drop-drop k o s)
 
 -- four columns, each replaced
 pub four-columns : {a b c d a' b' c' d' : List ℕ} → a ≡ a' → b ≡ b' → c ≡ c' → d ≡ d' → a ++ b ++ c ++ d ≡ a' ++ b' ++ c' ++ d'

@@ -1,5 +1,4 @@
 -- The rule of every entry, from one test that is computed over the whole table.
-use mathlib.Core.Path.{refl}
 use Rattle.cipher.specs.Field.{xTimes, timesLow, times, inverse}
 use Rattle.cipher.specs.SBox.{affine, sBox}
 use Rattle.words.specs.Bytes.{same}
@@ -9,7 +8,7 @@ use Rattle.cipher.proofs.round_table.table.Tie as tie
 
 returns : tie.Need-returns
 unfolding xTimes timesLow times inverse affine sBox same mixes
-returns c = is-round-table _ refl tt
+returns c = is-round-table _ tt
 
 pub table-spec : {M : Type 1} → statement M
 table-spec = tie.close (tie.spec returns)

@@ -1,0 +1,18 @@
+use mathlib.Core.Path.{_∙_}
+use denote.Ref.{now}
+use native.Mathlib.Omega.{arith}
+use Rattle.cipher.proofs.Mixing.{entry-part}
+use borrow.Author.Needs.{needs}
+use Rattle.cipher.proofs.round.window.Statement.{statement}
+use Rattle.cipher.proofs.round.window.Tie as tie
+
+returns : tie.Need-returns
+returns c =
+    let start = c .before .before in
+    c .word-at .ensures ∙ entry-part (now (start .args .t)) (start .pre .0) (start .args .b) (start .args .o) 4 (search needs) (search needs)
+
+pub window-spec : {M : Type 1} → statement M
+window-spec =
+    tie.close
+    (tie.spec
+    (λ c. search needs) (λ c. search needs) (λ c κs. search needs) returns)
