@@ -2,3 +2,4 @@
 pub mod Cmac
 pub mod Context
 pub mod Padded
+pub mod Shifted

@@ -3,12 +3,13 @@ use words::Block;
 ghost use mathlib.Core.Path.{_≡_};
 ghost use mathlib.Core.List.{_++_};
 ghost use mathlib.Core.Bool.{cond};
-ghost use Prim.Native.Nat.{_+_, _*_, _/_, _%_};
+ghost use Prim.Native.Nat.{_<_};
 ghost use lib.Dec.{ltb};
 ghost use Rattle.cipher.specs.Cipher.{cipherOf};
 ghost use Rattle.cipher.specs.Tables.{IsRoundTable};
-ghost use Rattle.words.specs.Words.{blockOf};
+ghost use Rattle.words.specs.Words.{bytes, blockOf};
 ghost use Rattle.cmac.specs.Cmac.{double, subkey1, subkey2};
+ghost use Rattle.cmac.specs.Shifted.{shiftedUp};
 
 // Both subkeys, one after the other. While they are not known zeros stand for them: the tag of the zero block is then its cipher.
 pub fn both(t: &[u8; 2048], w: &[u8; 176]) -> [u8; 32]
@@ -24,31 +25,29 @@ pub fn both(t: &[u8; 2048], w: &[u8; 176]) -> [u8; 32]
     k
 }
 
-// A block doubled.
+// A block doubled: its halves as numbers whose highest byte is the first one, shifted left.
 fn doubled(b: Block) -> Block
     ensures { λ r. ⌜ blockOf r ≡ double (blockOf b) ⌝ }
 {
-    let l = words::bytes_of(b);
-    let mut r = [0u8; 16];
-    let mut i: usize = 0;
-    while i < 15 {
-        r[i] = shifted(l[i], l[i + 1]);
-        i += 1;
+    let head = words::reversed_double_word(b.head);
+    let tail = words::reversed_double_word(b.tail);
+    Block {
+        head: words::reversed_double_word(shifted(head, tail / 9223372036854775808)),
+        tail: words::reversed_double_word(shifted(tail, 0) ^ carry(head)),
     }
-    r[15] = shifted(l[15], 0) ^ carry(l[0]);
-    words::block_at(&r, 0)
 }
 
-// A byte shifted left by one bit, with the highest bit of the next one.
-fn shifted(a: u8, next: u8) -> u8
-    ensures { λ r. ⌜ r ≡ a % 0x80 * 2 + next / 0x80 ⌝ }
+// A number shifted left by one bit, with the bit that comes in.
+fn shifted(w: u64, bit: u64) -> u64
+    requires { ⌜ bit < 2 ⌝ }
+    ensures { λ r. ⌜ bytes 8 r ≡ shiftedUp bit (bytes 8 w) ⌝ }
 {
-    a % 128 * 2 + next / 128
+    w % 9223372036854775808 * 2 + bit
 }
 
-// What the bit that leaves the first byte adds to the last one.
-fn carry(first: u8) -> u8
-    ensures { λ r. ⌜ r ≡ cond (ltb first 0x80) 0 0x87 ⌝ }
+// What the bit that leaves a number adds to the last byte.
+fn carry(w: u64) -> u64
+    ensures { λ r. ⌜ r ≡ cond (ltb w 0x8000000000000000) 0 0x87 ⌝ }
 {
-    if first < 128 { 0 } else { 0x87 }
+    if w < 9223372036854775808 { 0 } else { 0x87 }
 }

@@ -9,7 +9,6 @@ use lib.ListN.{length, take, drop, set, length-append, length-take, length-drop,
 use lib.Seq.{take-append-seam, drop-append-seam, take-at, drop-at, getD-take, getD-drop, getD-set-other, ext-getD, drop-drop, length-take-le, sets, length-sets, sets-eq}
 use Rattle.words.specs.Bytes.{at, part}
 use Rattle.words.specs.Words.{bytes}
-use Rattle.words.proofs.Bytes.{bytes-halves}
 use Rattle.tree.specs.Numbers.{be}
 
 pub append-inj : {A : Type 0} (a b c d : List A) → length a ≡ length c → a ++ b ≡ c ++ d → (a ≡ c) × (b ≡ d)
@@ -38,11 +37,6 @@ be-inj (suc k) x y hx hy e =
 pub be-turned : (v w : ℕ) → bytes 8 v ≡ be 8 w → be 8 v ≡ bytes 8 w
 unfolding be
 be-turned v w e = ap reverse e
-
--- the two halves of a number of eight bytes
-pub be-halves : (x : ℕ) → be 4 (x / 4294967296) ++ be 4 (x % 4294967296) ≡ be 8 x
-unfolding be
-be-halves x = ap reverse (bytes-halves x)
 
 -- a store changes nothing beside it
 pub at-sets-apart : (x c : List ℕ) (o j : ℕ) → (j < o) ⊎ (o + length x ≤ j) → at (sets c o x) j ≡ at c j

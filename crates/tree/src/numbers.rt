@@ -7,17 +7,12 @@ ghost use Rattle.tree.specs.Numbers.{be, be8};
 pub fn be4(v: u32) -> u32
     ensures { λ r. ⌜ bytes 4 r ≡ be 4 v ⌝ }
 {
-    words::word_of(
-        words::byte3(v) as u8,
-        words::byte2(v) as u8,
-        words::byte1(v) as u8,
-        words::byte0(v) as u8,
-    )
+    words::reversed_word(v)
 }
 
 // A number of eight bytes.
 pub fn be8(x: u64) -> u64
     ensures { λ r. ⌜ bytes 8 r ≡ be8 x ⌝ }
 {
-    words::double_word(be4((x / 4294967296) as u32), be4((x % 4294967296) as u32))
+    words::reversed_double_word(x)
 }

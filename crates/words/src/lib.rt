@@ -1,6 +1,6 @@
 // Bytes in machine words, the first byte lowest. Division and remainder say what the compiler turns into shifts and moves.
 ghost use mathlib.Core.Path.{_≡_};
-ghost use mathlib.Core.List.{[], _∷_, _++_};
+ghost use mathlib.Core.List.{[], _∷_, _++_, reverse};
 ghost use Prim.Native.Nat.{_+_, _≤_, _<_};
 ghost use lib.ListN.{length};
 ghost use lib.Seq.{sets};
@@ -58,6 +58,27 @@ pub fn double_word(low: u32, high: u32) -> u64
     ensures { λ r. ⌜ bytes 8 r ≡ bytes 4 low ++ bytes 4 high ⌝ }
 {
     low as u64 + high as u64 * 4294967296
+}
+
+// A word of four or eight bytes with the last byte first.
+pub fn reversed_word(w: u32) -> u32
+    ensures { λ r. ⌜ bytes 4 r ≡ reverse (bytes 4 w) ⌝ }
+{
+    word_of(
+        byte3(w) as u8,
+        byte2(w) as u8,
+        byte1(w) as u8,
+        byte0(w) as u8,
+    )
+}
+
+pub fn reversed_double_word(w: u64) -> u64
+    ensures { λ r. ⌜ bytes 8 r ≡ reverse (bytes 8 w) ⌝ }
+{
+    double_word(
+        reversed_word((w / 4294967296) as u32),
+        reversed_word((w % 4294967296) as u32),
+    )
 }
 
 // The bytes of s from o, four, eight or 16 of them.

@@ -1,4 +1,3 @@
-use mathlib.Core.Path.{_∙_}
 use Rattle.tree.specs.Numbers.{be}
 use borrow.Author.Needs.{needs}
 use Rattle.tree.proofs.numbers.be4.Statement.{statement}
@@ -6,16 +5,10 @@ use Rattle.tree.proofs.numbers.be4.Tie as tie
 
 returns : tie.Need-returns
 unfolding be
-returns c =
-    let b0 = c .before in
-    let b1 = b0 .before in
-    let b2 = b1 .before in
-    let b3 = b2 .before in
-    c .word-of .ensures ∙ rw (b3 .byte3 .ensures, b2 .byte2 .ensures, b1 .byte1 .ensures, b0 .byte0 .ensures)
+returns c = c .reversed-word .ensures
 
 pub be4-spec : {M : Type 1} → statement M
 be4-spec =
     tie.close
     (tie.spec
-    (λ c κs. search needs) (λ c. search needs) (λ c κs. search needs) (λ c. search needs) (λ c κs. search needs) (λ c. search needs)
-    (λ c κs. search needs) (λ c. search needs) (λ c κs. search needs) returns)
+    (λ c κs. search needs) returns)
