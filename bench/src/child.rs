@@ -4,13 +4,12 @@
 //! variable that hides the CPU's features. The child runs one repetition for each line it
 //! reads, while this process waits, and answers with the nanoseconds.
 
-use crate::nettle::Nettle;
-use crate::subject::{Column, Local, Subject, COLUMNS, KEY};
+use crate::subject::Subject;
 use std::io::{BufRead, BufReader, Write};
 use std::process::{ChildStdin, ChildStdout, Command, Stdio};
 use std::time::Duration;
 
-/// The argument that makes a process the child.
+/// The argument that makes a process the child; the name of a table follows.
 pub const ARGUMENT: &str = "nettle-without-aes-ni";
 
 /// Nettle's variable that replaces what it finds out about the CPU, and a CPU without features.
@@ -20,7 +19,7 @@ const NO_FEATURES: &str = "vendor:amd";
 /// The child's first line when it is ready to run.
 const READY: &str = "ready";
 
-/// The child, as a row of the table.
+/// The child, as a row of a table.
 pub struct Child {
     requests: ChildStdin,
     answers: BufReader<ChildStdout>,
@@ -36,11 +35,11 @@ fn line(answers: &mut impl BufRead) -> Result<String, String> {
 }
 
 impl Child {
-    /// Starts the child and waits until it agrees with the reference.
-    pub fn start() -> Result<Self, String> {
+    /// Starts the child for a table and waits until it agrees with the reference.
+    pub fn start(table: &str) -> Result<Self, String> {
         let told = |error: std::io::Error| format!("the child with Nettle: {error}");
         let mut child = Command::new(std::env::current_exe().map_err(told)?)
-            .arg(ARGUMENT)
+            .args([ARGUMENT, table])
             .env(VARIABLE, NO_FEATURES)
             .stdin(Stdio::piped())
             .stdout(Stdio::piped())
@@ -58,29 +57,26 @@ impl Child {
 
 impl Subject for Child {
     /// Has the child time the work.
-    fn measure(&mut self, column: Column, count: u64) -> Duration {
-        let place = COLUMNS.iter().position(|&known| known == column);
-        let place = place.expect("a column of the table");
+    fn measure(&mut self, place: usize, count: u64) -> Duration {
         writeln!(self.requests, "{place} {count}").expect("the child reads");
         let answer = line(&mut self.answers).expect("the child answers");
         Duration::from_nanos(answer.parse().expect("nanoseconds from the child"))
     }
 }
 
-/// Runs one request of the parent: the place of a column and a count.
-fn answer(nettle: &mut Local, request: &str) -> Option<u128> {
+/// Runs one request of the parent: a place in the table's list and a count.
+fn answer(nettle: &mut dyn Subject, request: &str) -> Option<u128> {
     let (place, count) = request.split_once(' ')?;
-    let column = COLUMNS.get(place.parse::<usize>().ok()?)?;
-    Some(nettle.measure(*column, count.parse().ok()?).as_nanos())
+    let (place, count) = (place.parse().ok()?, count.parse().ok()?);
+    Some(nettle.measure(place, count).as_nanos())
 }
 
 /// The child: answers each line until there are no more.
-pub fn serve() -> Result<(), String> {
-    let mut nettle = Local::new(Box::new(Nettle::load(&KEY)?))?;
+pub fn serve(mut nettle: Box<dyn Subject>) -> Result<(), String> {
     println!("{READY}");
     for request in std::io::stdin().lines() {
         let request = request.map_err(|error| error.to_string())?;
-        let nanoseconds = answer(&mut nettle, &request).ok_or("a request of two numbers")?;
+        let nanoseconds = answer(nettle.as_mut(), &request).ok_or("a request of two numbers")?;
         println!("{nanoseconds}");
     }
     Ok(())

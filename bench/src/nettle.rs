@@ -1,7 +1,7 @@
 //! Nettle's AES-128 and CMAC.
 
 use crate::library::Library;
-use crate::subject::Chains;
+use crate::subject::{Chains, Mac};
 use std::ffi::c_int;
 
 /// Room for any of Nettle's contexts used here, the largest of 248 bytes.
@@ -14,37 +14,82 @@ type Encrypt = unsafe extern "C" fn(*const Room, usize, *mut u8, *const u8);
 type Update = unsafe extern "C" fn(*mut Room, usize, *const u8);
 type Digest = unsafe extern "C" fn(*mut Room, usize, *mut u8);
 
+/// Opens the library.
+fn open() -> Result<Library, String> {
+    let library = Library::open(&["libnettle.so.8", "libnettle.so"])?;
+    // SAFETY: the type is that of Nettle's headers.
+    let version: Version = unsafe { library.function(c"nettle_version_major")? };
+    // SAFETY: it takes nothing.
+    match unsafe { version() } {
+        3 => Ok(library),
+        _ => Err(format!("{} is not Nettle 3", library.name)),
+    }
+}
+
+/// Nettle's CMAC.
+pub struct Cmac {
+    room: Box<Room>,
+    set_key: SetKey,
+    update: Update,
+    digest: Digest,
+}
+
+impl Cmac {
+    /// Loads the library.
+    pub fn load() -> Result<Self, String> {
+        let library = open()?;
+        // SAFETY: the types are those of Nettle 3's headers.
+        unsafe {
+            Ok(Cmac {
+                room: Box::new(Room([0; 1024])),
+                set_key: library.function(c"nettle_cmac_aes128_set_key")?,
+                update: library.function(c"nettle_cmac_aes128_update")?,
+                digest: library.function(c"nettle_cmac_aes128_digest")?,
+            })
+        }
+    }
+}
+
+impl Mac for Cmac {
+    /// One call.
+    unsafe fn set_key(&mut self, key: *const u8) {
+        // SAFETY: the room is large enough, and the caller answers for the key.
+        unsafe { (self.set_key)(&mut *self.room, key) };
+    }
+
+    /// Two calls; the second makes the context ready for the next tag.
+    #[inline]
+    unsafe fn tag(&mut self, message: *const u8, length: usize, tag: *mut u8) {
+        // SAFETY: the caller has set the key, and answers for message and tag.
+        unsafe {
+            (self.update)(&mut *self.room, length, message);
+            (self.digest)(&mut *self.room, 16, tag);
+        }
+    }
+}
+
 /// Nettle under one key.
 pub struct Nettle {
     cipher: Box<Room>,
-    cmac: Box<Room>,
     encrypt: Encrypt,
-    update: Update,
-    digest: Digest,
+    cmac: Cmac,
 }
 
 impl Nettle {
     /// Loads the library and sets the key.
     pub fn load(key: &[u8; 16]) -> Result<Self, String> {
-        let library = Library::open(&["libnettle.so.8", "libnettle.so"])?;
+        let library = open()?;
         let mut cipher = Box::new(Room([0; 1024]));
-        let mut cmac = Box::new(Room([0; 1024]));
-        // SAFETY: the types are those of Nettle 3's headers, and the rooms are large enough.
+        let mut cmac = Cmac::load()?;
+        // SAFETY: the types are those of Nettle 3's headers, and the room is large enough.
         unsafe {
-            let version: Version = library.function(c"nettle_version_major")?;
-            if version() != 3 {
-                return Err(format!("{} is not Nettle 3", library.name));
-            }
             let set_cipher: SetKey = library.function(c"nettle_aes128_set_encrypt_key")?;
-            let set_cmac: SetKey = library.function(c"nettle_cmac_aes128_set_key")?;
             set_cipher(&mut *cipher, key.as_ptr());
-            set_cmac(&mut *cmac, key.as_ptr());
+            cmac.set_key(key.as_ptr());
             Ok(Nettle {
                 cipher,
-                cmac,
                 encrypt: library.function(c"nettle_aes128_encrypt")?,
-                update: library.function(c"nettle_cmac_aes128_update")?,
-                digest: library.function(c"nettle_cmac_aes128_digest")?,
+                cmac,
             })
         }
     }
@@ -60,15 +105,12 @@ impl Chains for Nettle {
         }
     }
 
-    /// Two calls for each tag; the second makes the context ready for the next.
+    /// Tag after tag.
     fn tag_chain(&mut self, message: &mut [u8], count: u64) {
         let (bytes, length) = (message.as_mut_ptr(), message.len());
         for _ in 0..count {
             // SAFETY: the key is set, and the message has room for a tag.
-            unsafe {
-                (self.update)(&mut *self.cmac, length, bytes);
-                (self.digest)(&mut *self.cmac, 16, bytes);
-            }
+            unsafe { self.cmac.tag(bytes, length, bytes) };
         }
     }
 }

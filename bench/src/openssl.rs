@@ -1,7 +1,7 @@
 //! OpenSSL's AES-128 and CMAC, through the calls a user makes.
 
 use crate::library::Library;
-use crate::subject::Chains;
+use crate::subject::{Chains, Mac};
 use std::ffi::{c_char, c_int, c_uint, c_void, CStr};
 use std::ptr::{null, null_mut};
 
@@ -48,18 +48,84 @@ type EncryptUpdate =
     unsafe extern "C" fn(*mut c_void, *mut u8, *mut c_int, *const u8, c_int) -> c_int;
 type MacFetch = unsafe extern "C" fn(*mut c_void, *const c_char, *const c_char) -> *mut c_void;
 type MacNew = unsafe extern "C" fn(*mut c_void) -> *mut c_void;
+type MacSet = unsafe extern "C" fn(*mut c_void, *const Parameter) -> c_int;
 type MacInit = unsafe extern "C" fn(*mut c_void, *const u8, usize, *const Parameter) -> c_int;
 type MacUpdate = unsafe extern "C" fn(*mut c_void, *const u8, usize) -> c_int;
 type MacFinal = unsafe extern "C" fn(*mut c_void, *mut u8, *mut usize, usize) -> c_int;
+
+/// Opens the library.
+pub fn open() -> Result<Library, String> {
+    Library::open(&["libcrypto.so.3", "libcrypto.so"])
+}
+
+/// OpenSSL's CMAC; its context stays until the program ends.
+pub struct Cmac {
+    context: *mut c_void,
+    init: MacInit,
+    update: MacUpdate,
+    finish: MacFinal,
+    /// Whether the context waits for a message; else it has to be made ready again.
+    ready: bool,
+}
+
+impl Cmac {
+    /// Loads the library and makes a context of CMAC with AES-128-CBC.
+    pub fn load() -> Result<Self, String> {
+        let library = open()?;
+        let parameters = [Parameter::cipher(c"AES-128-CBC"), Parameter::END];
+        // SAFETY: the types are those of OpenSSL 3's headers, and END ends the list.
+        unsafe {
+            let fetch: MacFetch = library.function(c"EVP_MAC_fetch")?;
+            let new: MacNew = library.function(c"EVP_MAC_CTX_new")?;
+            let set: MacSet = library.function(c"EVP_MAC_CTX_set_params")?;
+            let method = fetch(null_mut(), c"CMAC".as_ptr(), null());
+            if method.is_null() {
+                return Err(format!("{} has no CMAC", library.name));
+            }
+            let context = new(method);
+            if set(context, parameters.as_ptr()) != 1 {
+                return Err(format!("{} makes no CMAC", library.name));
+            }
+            Ok(Cmac {
+                context,
+                init: library.function(c"EVP_MAC_init")?,
+                update: library.function(c"EVP_MAC_update")?,
+                finish: library.function(c"EVP_MAC_final")?,
+                ready: false,
+            })
+        }
+    }
+}
+
+impl Mac for Cmac {
+    /// One call.
+    unsafe fn set_key(&mut self, key: *const u8) {
+        // SAFETY: the caller answers for the key.
+        let done = unsafe { (self.init)(self.context, key, 16, null()) };
+        assert_eq!(done, 1, "OpenSSL sets a key");
+        self.ready = true;
+    }
+
+    /// Two calls, and before each tag but the first one more, which keeps the key.
+    #[inline]
+    unsafe fn tag(&mut self, message: *const u8, length: usize, tag: *mut u8) {
+        let mut written = 0;
+        // SAFETY: the caller has set the key, and answers for message and tag.
+        let done = unsafe {
+            (self.ready || (self.init)(self.context, null(), 0, null()) == 1)
+                && (self.update)(self.context, message, length) == 1
+                && (self.finish)(self.context, tag, &mut written, 16) == 1
+        };
+        assert!(done && written == 16, "OpenSSL makes a tag");
+        self.ready = false;
+    }
+}
 
 /// OpenSSL under one key; its contexts stay until the program ends.
 pub struct OpenSsl {
     cipher: *mut c_void,
     encrypt: EncryptUpdate,
-    mac: *mut c_void,
-    init: MacInit,
-    update: MacUpdate,
-    finish: MacFinal,
+    cmac: Cmac,
 }
 
 /// Makes a context of AES-128-ECB without padding.
@@ -79,38 +145,18 @@ fn make_cipher(library: &Library, key: &[u8; 16]) -> Result<*mut c_void, String>
     Err(format!("{} makes no AES-128-ECB", library.name))
 }
 
-/// Makes a context of CMAC with AES-128-CBC.
-fn make_mac(library: &Library, key: &[u8; 16]) -> Result<*mut c_void, String> {
-    let parameters = [Parameter::cipher(c"AES-128-CBC"), Parameter::END];
-    // SAFETY: the types are those of OpenSSL 3's headers, and END ends the list.
-    unsafe {
-        let fetch: MacFetch = library.function(c"EVP_MAC_fetch")?;
-        let new: MacNew = library.function(c"EVP_MAC_CTX_new")?;
-        let init: MacInit = library.function(c"EVP_MAC_init")?;
-        let method = fetch(null_mut(), c"CMAC".as_ptr(), null());
-        if !method.is_null() {
-            let context = new(method);
-            if init(context, key.as_ptr(), 16, parameters.as_ptr()) == 1 {
-                return Ok(context);
-            }
-        }
-    }
-    Err(format!("{} makes no CMAC", library.name))
-}
-
 impl OpenSsl {
     /// Loads the library and sets the key.
     pub fn load(key: &[u8; 16]) -> Result<Self, String> {
-        let library = Library::open(&["libcrypto.so.3", "libcrypto.so"])?;
+        let library = open()?;
+        let mut cmac = Cmac::load()?;
         // SAFETY: the types are those of OpenSSL 3's headers.
         unsafe {
+            cmac.set_key(key.as_ptr());
             Ok(OpenSsl {
                 cipher: make_cipher(&library, key)?,
                 encrypt: library.function(c"EVP_EncryptUpdate")?,
-                mac: make_mac(&library, key)?,
-                init: library.function(c"EVP_MAC_init")?,
-                update: library.function(c"EVP_MAC_update")?,
-                finish: library.function(c"EVP_MAC_final")?,
+                cmac,
             })
         }
     }
@@ -128,18 +174,12 @@ impl Chains for OpenSsl {
         }
     }
 
-    /// Three calls for each tag; the first makes the context ready under the same key.
+    /// Tag after tag.
     fn tag_chain(&mut self, message: &mut [u8], count: u64) {
         let (bytes, length) = (message.as_mut_ptr(), message.len());
-        let mut written = 0;
         for _ in 0..count {
             // SAFETY: the key is set, and the message has room for a tag.
-            let done = unsafe {
-                (self.init)(self.mac, null(), 0, null()) == 1
-                    && (self.update)(self.mac, bytes, length) == 1
-                    && (self.finish)(self.mac, bytes, &mut written, 16) == 1
-            };
-            assert!(done && written == 16, "OpenSSL makes a tag");
+            unsafe { self.cmac.tag(bytes, length, bytes) };
         }
     }
 }

@@ -6,6 +6,14 @@ use std::fmt;
 use std::hint::black_box;
 use std::time::Duration;
 
+/// The names of rows.
+pub const PROVED: &str = "proved";
+pub const REFERENCE: &str = "`reference/`, byte by byte";
+pub const TABLE: &str = "plain Rust with the same kind of table";
+pub const WITH: &str = "Nettle with AES instructions";
+pub const WITHOUT: &str = "Nettle without AES instructions";
+pub const OPENSSL: &str = "OpenSSL, EVP_MAC";
+
 /// The key of every competitor.
 pub const KEY: [u8; 16] = *b"key of one depot";
 
@@ -27,7 +35,7 @@ impl fmt::Display for Column {
     fn fmt(&self, out: &mut fmt::Formatter) -> fmt::Result {
         match self {
             Column::Block => out.pad("block"),
-            Column::Tag(length) => out.pad(&format!("tag of {length}")),
+            Column::Tag(length) => out.pad(&format!("tag of {length} bytes")),
         }
     }
 }
@@ -39,6 +47,15 @@ pub trait Chains {
 
     /// That many times, puts the tag of the message in place of its first 16 bytes.
     fn tag_chain(&mut self, message: &mut [u8], count: u64);
+}
+
+/// A library's CMAC with its context.
+pub trait Mac {
+    /// Makes the context ready under a key of 16 bytes.
+    unsafe fn set_key(&mut self, key: *const u8);
+
+    /// Writes the tag of a message under the key that was set; the two may lie at one place.
+    unsafe fn tag(&mut self, message: *const u8, length: usize, tag: *mut u8);
 }
 
 /// Runs the work of one column at the start of a buffer.
@@ -74,11 +91,14 @@ pub fn compare(chains: &mut dyn Chains) -> Result<(), String> {
     Ok(())
 }
 
-/// A row of the table: something that times its own work.
+/// A row of a table: something that times its own work.
 pub trait Subject {
-    /// How long the work of that column takes, that many times.
-    fn measure(&mut self, column: Column, count: u64) -> Duration;
+    /// How long the work at that place of the table's list takes, that many times.
+    fn measure(&mut self, place: usize, count: u64) -> Duration;
 }
+
+/// The rows of a table by name.
+pub type Competitors = Vec<(&'static str, Box<dyn Subject>)>;
 
 /// A competitor in this process.
 pub struct Local {
@@ -98,9 +118,10 @@ impl Local {
 }
 
 impl Subject for Local {
-    /// Times the work here.
-    fn measure(&mut self, column: Column, count: u64) -> Duration {
+    /// Times the work of a column here.
+    fn measure(&mut self, place: usize, count: u64) -> Duration {
         let Local { chains, buffer } = self;
+        let column = COLUMNS[place];
         let taken = stopwatch(count, |count| run(chains.as_mut(), column, buffer, count));
         black_box(&buffer);
         taken

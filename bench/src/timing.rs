@@ -3,6 +3,7 @@
 //! Each is timed by the least of many short repetitions, and the repetitions of all are
 //! taken in turn, so that a busy machine disturbs little and all alike.
 
+use std::ffi::c_int;
 use std::time::{Duration, Instant};
 
 /// How many repetitions in a row make nothing better before the figures stand.
@@ -11,18 +12,32 @@ const STEADY: usize = 200;
 /// The share of the old figure that is better, and not just as good.
 const BETTER: f64 = 0.995;
 
-/// How long the figures may take to stand.
-const LONGEST: Duration = Duration::from_secs(20);
-
 /// How many repetitions settle how long the others are.
 const SETTLING: usize = 40;
-
-/// How long a repetition takes at least.
-const SHORTEST: Duration = Duration::from_micros(100);
 
 /// How many times longer than its preparation a repetition is made, so that the preparation
 /// stays under 0.5 % even if the machine was busy while that was settled.
 const PREPARATIONS: u32 = 400;
+
+/// Repetitions longer than this hardly ever have the CPU to themselves on a busy machine.
+const LONG: Duration = Duration::from_millis(5);
+
+/// How long a repetition takes at least, and all of them together at the most.
+#[derive(Clone, Copy)]
+pub struct Span {
+    pub repetition: Duration,
+    pub all: Duration,
+}
+
+impl Span {
+    /// The shortest repetitions that make sense.
+    pub fn short(seconds: u64) -> Self {
+        Span {
+            repetition: Duration::from_micros(100),
+            all: Duration::from_secs(seconds),
+        }
+    }
+}
 
 /// What was found for one piece of work.
 #[derive(Clone, Copy)]
@@ -35,12 +50,44 @@ pub struct Figure {
     pub share: f64,
 }
 
-/// Runs a piece of work that many times and says how long it took, after a short warm-up.
+/// C's struct timespec.
+#[repr(C)]
+struct Moment {
+    seconds: i64,
+    nanoseconds: i64,
+}
+
+extern "C" {
+    fn clock_gettime(clock: c_int, moment: *mut Moment) -> c_int;
+}
+
+/// The clock that stands still while another process has this one's CPU.
+const CLOCK_THREAD_CPUTIME_ID: c_int = 3;
+
+/// How long this thread has been running.
+fn running() -> Duration {
+    let mut moment = Moment {
+        seconds: 0,
+        nanoseconds: 0,
+    };
+    // SAFETY: the moment has the form that C gives it.
+    let done = unsafe { clock_gettime(CLOCK_THREAD_CPUTIME_ID, &mut moment) };
+    assert_eq!(done, 0, "the system has this clock");
+    Duration::new(moment.seconds as u64, moment.nanoseconds as u32)
+}
+
+/// Runs a piece of work that many times and says how long it took, after a short warm-up. Where
+/// that is long, other processes come between, and their time is left out.
 pub fn stopwatch(count: u64, mut run: impl FnMut(u64)) -> Duration {
     run(count / 8);
+    let before = running();
     let start = Instant::now();
     run(count);
-    start.elapsed()
+    let taken = start.elapsed();
+    match taken < LONG {
+        true => taken,
+        false => taken.min(running() - before),
+    }
 }
 
 /// The best known of one piece of work.
@@ -52,13 +99,13 @@ struct Best {
 
 impl Best {
     /// A first guess: the count is doubled until it takes long enough to be seen.
-    fn guess(mut measure: impl FnMut(u64) -> Duration) -> Self {
+    fn guess(shortest: Duration, mut measure: impl FnMut(u64) -> Duration) -> Self {
         let mut best = Best {
             count: 1,
             preparation: measure(0),
             repetition: measure(1),
         };
-        while best.repetition < SHORTEST {
+        while best.repetition < shortest {
             best.count *= 2;
             best.repetition = measure(best.count);
         }
@@ -66,8 +113,8 @@ impl Best {
     }
 
     /// Chooses the count from what is known, and forgets the repetitions of the old one.
-    fn settle(&mut self) {
-        let wanted = SHORTEST.max(self.preparation * PREPARATIONS);
+    fn settle(&mut self, shortest: Duration) {
+        let wanted = shortest.max(self.preparation * PREPARATIONS);
         let times = wanted.as_secs_f64() / self.repetition.as_secs_f64();
         self.count = (self.count as f64 * times).ceil() as u64;
         self.repetition = Duration::MAX;
@@ -93,11 +140,17 @@ impl Best {
     }
 }
 
-/// Repeats all in turn, until that many repetitions in a row made nothing better.
-fn repeat(all: &mut [Best], steady: usize, mut measure: impl FnMut(usize, u64) -> Duration) {
+/// Repeats all in turn: for a third of the time at least, and then until that many repetitions in
+/// a row made nothing better or the time is up.
+fn repeat(
+    all: &mut [Best],
+    steady: usize,
+    longest: Duration,
+    mut measure: impl FnMut(usize, u64) -> Duration,
+) {
     let start = Instant::now();
     let mut idle = 0;
-    while idle < steady && start.elapsed() < LONGEST {
+    while start.elapsed() < longest / 3 || (idle < steady && start.elapsed() < longest) {
         idle += 1;
         for (work, best) in all.iter_mut().enumerate() {
             if best.improve(|count| measure(work, count)) {
@@ -107,14 +160,19 @@ fn repeat(all: &mut [Best], steady: usize, mut measure: impl FnMut(usize, u64) -
     }
 }
 
-/// Times that many pieces of work; `measure` runs one of them a number of times.
-pub fn race(works: usize, mut measure: impl FnMut(usize, u64) -> Duration) -> Vec<Figure> {
+/// Times that many pieces of work; `measure` runs one of them a number of times. Settling gets a
+/// quarter of the time.
+pub fn race(
+    works: usize,
+    span: Span,
+    mut measure: impl FnMut(usize, u64) -> Duration,
+) -> Vec<Figure> {
     let mut all: Vec<Best> = (0..works)
-        .map(|work| Best::guess(|count| measure(work, count)))
+        .map(|work| Best::guess(span.repetition, |count| measure(work, count)))
         .collect();
-    for steady in [SETTLING, STEADY] {
-        all.iter_mut().for_each(Best::settle);
-        repeat(&mut all, steady, &mut measure);
+    for (steady, share) in [(SETTLING, span.all / 4), (STEADY, 3 * span.all / 4)] {
+        all.iter_mut().for_each(|best| best.settle(span.repetition));
+        repeat(&mut all, steady, share, &mut measure);
     }
     all.iter().map(Best::figure).collect()
 }
