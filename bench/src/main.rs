@@ -1,5 +1,6 @@
 //! Times the proved code against other versions, and prints tables in Markdown.
 
+mod calls;
 mod chains;
 mod child;
 mod library;
@@ -19,13 +20,15 @@ fn run() -> Result<(), String> {
     std::env::remove_var(child::VARIABLE);
     println!("Times are in nanoseconds: the minimum over many short repetitions, taken in turn.");
     println!("In brackets: the multiple of the proved code's time.\n");
-    chains::run()
+    chains::run()?;
+    calls::run()
 }
 
 /// The child: Nettle without AES-NI, for one of the tables.
 fn serve(table: &str) -> Result<(), String> {
     match table {
         chains::NAME => child::serve(chains::nettle()?),
+        calls::NAME => child::serve(calls::nettle()?),
         other => Err(format!("no table: {other}")),
     }
 }

@@ -117,6 +117,16 @@ impl Local {
     }
 }
 
+/// A competitor's blocks alone, whatever the place.
+pub struct Blocks(pub Local);
+
+impl Subject for Blocks {
+    fn measure(&mut self, _: usize, count: u64) -> Duration {
+        let block = COLUMNS.iter().position(|&column| column == Column::Block);
+        self.0.measure(block.expect("a column is the block"), count)
+    }
+}
+
 impl Subject for Local {
     /// Times the work of a column here.
     fn measure(&mut self, place: usize, count: u64) -> Duration {

@@ -1,0 +1,88 @@
+//! The targets of the calls.
+
+use super::results::Results;
+use super::{Call, DEEPEST, DEPTHS};
+use crate::subject::{OPENSSL, WITHOUT};
+
+/// The calls that have targets.
+const CALLS: [Call; 2] = [Call::Read, Call::Write];
+
+/// The most that a call may take, as a multiple of the limit.
+const LIMIT_TARGET: f64 = 4.5;
+
+/// Whether a target is met, and where it is not.
+fn verdict(met: [bool; DEPTHS.len()]) -> String {
+    let missed = DEPTHS.iter().zip(met).filter(|(_, met)| !met);
+    let missed: Vec<String> = missed.map(|(depth, _)| depth.to_string()).collect();
+    match missed.len() {
+        0 => "reached".to_string(),
+        all if all == DEPTHS.len() => "not reached".to_string(),
+        _ => format!("not reached at depth {}", missed.join(" and ")),
+    }
+}
+
+/// Prints one target: at each depth of the tables the proved code's time as a multiple of
+/// another, which has to be less than `most`; and at which depth of the plot it is largest.
+fn print_target(
+    results: &Results,
+    text: &str,
+    most: f64,
+    call: Call,
+    other: impl Fn(u32) -> Option<f64>,
+) {
+    let ratio = |depth| Some((results.proved(call, depth) / other(depth)?, depth));
+    let all: Option<Vec<(f64, u32)>> = (1..=DEEPEST).map(ratio).collect();
+    let Some(all) = all else {
+        println!("- {call} {text}: not measured");
+        return;
+    };
+    let ratios = DEPTHS.map(|depth| all[depth as usize - 1].0);
+    let shown: Vec<String> = ratios.iter().map(|ratio| format!("{ratio:.2}")).collect();
+    let worst = all.iter().max_by(|one, other| one.0.total_cmp(&other.0));
+    let (worst, depth) = worst.expect("there are depths");
+    println!(
+        "- {call} {text}: {} ({}; of depths 1 to {DEEPEST} the most {worst:.2}, at {depth})",
+        verdict(ratios.map(|ratio| ratio < most)),
+        shown.join(", ")
+    );
+}
+
+/// Prints every target.
+pub fn print_all(results: &Results) {
+    let [low, middle, high] = DEPTHS;
+    println!(
+        "Targets (in brackets the proved code's time as a multiple of the other, at depths {low},"
+    );
+    println!("{middle} and {high}):\n");
+    for (name, text) in [
+        (
+            OPENSSL,
+            "ahead of the tree over OpenSSL with AES instructions",
+        ),
+        (
+            WITHOUT,
+            "ahead of the tree over Nettle without AES instructions",
+        ),
+    ] {
+        for call in CALLS {
+            print_target(results, text, 1.0, call, |depth| {
+                results.time(name, call, depth)
+            });
+        }
+    }
+    let text = format!("within {LIMIT_TARGET} of the limit");
+    for call in CALLS {
+        print_target(results, &text, LIMIT_TARGET, call, |depth| {
+            results.limit(call, depth)
+        });
+    }
+    let text = format!("within {LIMIT_TARGET} of its AES calls at the cost of OpenSSL's blocks");
+    for call in CALLS {
+        let other = |depth| results.at_block_of(OPENSSL, call, depth);
+        print_target(results, &text, LIMIT_TARGET, call, other);
+    }
+    if let Some((least, most)) = results.block(OPENSSL) {
+        println!("\nOpenSSL's block, one call of EVP_EncryptUpdate: {least:.2} to {most:.2} ns in turn with the calls.");
+    }
+    println!();
+}
