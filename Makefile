@@ -10,7 +10,7 @@ help:
 	@echo 'make test      the tests in Rust alone'
 	@echo 'make host-test the tests of the C side alone: header, calls, tool, installation'
 	@echo 'make install   the library, its header and the tool into PREFIX, under DESTDIR if given'
-	@echo 'make bench     the speed of the proved code against other implementations'
+	@echo 'make bench     the speed of the proved code against other implementations, and docs/calls.svg'
 	@echo 'make vectors   prove cipher and CMAC, and print the published vectors as the proved code computes them'
 	@echo 'make clean     remove what was built'
 
@@ -29,7 +29,7 @@ check: test host-test
 	rt ci
 
 bench: archives
-	$(CARGO) run --release --quiet -p bench
+	$(CARGO) run --release --quiet -p bench -- --plot docs/calls.svg
 
 clean:
 	rm -rf target

@@ -3,6 +3,7 @@
 mod card;
 mod instructions;
 mod merkle;
+mod plot;
 mod results;
 mod sha256;
 mod store;
@@ -19,6 +20,7 @@ use card::{Calls, Proved, Reference};
 use instructions::Instructions;
 use results::{Results, Times};
 use std::fmt;
+use std::path::Path;
 use std::rc::Rc;
 use std::time::Duration;
 use store::Stores;
@@ -35,7 +37,7 @@ pub const INSTRUCTIONS: &str = "AES instructions";
 /// The depths of the tables.
 pub const DEPTHS: [u32; 3] = [4, 10, 16];
 
-/// Reads and writes are timed at each depth up to this.
+/// Reads and writes are timed at each depth up to this, for the plot.
 pub const DEEPEST: u32 = 16;
 
 /// What is timed.
@@ -187,8 +189,8 @@ fn names(all: &Competitors) -> Vec<&'static str> {
     all.iter().map(|(name, _)| *name).collect()
 }
 
-/// Times all, and prints tables and targets.
-pub fn run() -> Result<(), String> {
+/// Times all, prints tables and targets, and draws the plot.
+pub fn run(path: Option<&Path>) -> Result<(), String> {
     println!("## The calls\n");
     let (mut all, mut blocks) = (competitors()?, yardsticks()?);
     let mut found = Times::default();
@@ -198,5 +200,8 @@ pub fn run() -> Result<(), String> {
     let results = Results::new(names(&all), names(&blocks), works(), found);
     tables::print_all(&results);
     targets::print_all(&results);
-    Ok(())
+    match path {
+        Some(path) => plot::write(&results, path),
+        None => Ok(()),
+    }
 }

@@ -1,4 +1,4 @@
-//! Times the proved code against other versions, and prints tables in Markdown.
+//! Times the proved code against other versions, prints tables in Markdown, and draws a plot.
 
 mod calls;
 mod chains;
@@ -13,15 +13,19 @@ mod subject;
 mod table;
 mod timing;
 
+use std::path::Path;
 use std::process::ExitCode;
 
-/// Prints everything.
-fn run() -> Result<(), String> {
+/// The argument before the name of the file that gets the plot.
+const PLOT: &str = "--plot";
+
+/// Prints everything; the plot goes to the file, if one is named.
+fn run(plot: Option<&str>) -> Result<(), String> {
     std::env::remove_var(child::VARIABLE);
     println!("Times are in nanoseconds: the minimum over many short repetitions, taken in turn.");
     println!("In brackets: the multiple of the proved code's time.\n");
     chains::run()?;
-    calls::run()
+    calls::run(plot.map(Path::new))
 }
 
 /// The child: Nettle without AES-NI, for one of the tables.
@@ -38,9 +42,10 @@ fn main() -> ExitCode {
     let arguments: Vec<String> = std::env::args().skip(1).collect();
     let arguments: Vec<&str> = arguments.iter().map(String::as_str).collect();
     let result = match arguments[..] {
-        [] => run(),
+        [] => run(None),
+        [PLOT, path] => run(Some(path)),
         [child::ARGUMENT, table] => serve(table),
-        _ => Err("no argument is expected".to_string()),
+        _ => Err(format!("usage: bench [{PLOT} FILE]")),
     };
     match result {
         Ok(()) => ExitCode::SUCCESS,

@@ -10,13 +10,13 @@ use crate::subject::{OPENSSL, PROVED, WITH, WITHOUT};
 const CALLS: [Call; 4] = [Call::Read, Call::Write, Call::Check, Call::Format];
 
 /// The row of the limit.
-const LIMIT: &str = "limit";
+pub const LIMIT: &str = "limit";
 
 /// Where the system says how large the second-level cache is.
 const CACHE: &str = "/sys/devices/system/cpu/cpu0/cache/index2/size";
 
 /// A whole number with commas.
-fn exact(number: u64) -> String {
+pub fn exact(number: u64) -> String {
     let digits = number.to_string();
     let mut text = String::new();
     for (place, digit) in digits.chars().enumerate() {
