@@ -189,19 +189,23 @@ fn names(all: &Competitors) -> Vec<&'static str> {
     all.iter().map(|(name, _)| *name).collect()
 }
 
-/// Times all, prints tables and targets, and draws the plot.
-pub fn run(path: Option<&Path>) -> Result<(), String> {
-    println!("## The calls\n");
+/// Times all.
+pub fn measure() -> Result<Results, String> {
     let (mut all, mut blocks) = (competitors()?, yardsticks()?);
     let mut found = Times::default();
     for group in groups() {
         time(&group, &mut all, &mut blocks, &mut found);
     }
-    let results = Results::new(names(&all), names(&blocks), works(), found);
-    tables::print_all(&results);
-    targets::print_all(&results);
+    Ok(Results::new(names(&all), names(&blocks), works(), found))
+}
+
+/// Prints tables and targets, and draws the plot if a file is named.
+pub fn print(results: &Results, path: Option<&Path>) -> Result<(), String> {
+    println!("## The calls\n");
+    tables::print_all(results);
+    targets::print_all(results);
     match path {
-        Some(path) => plot::write(&results, path),
+        Some(path) => plot::write(results, path),
         None => Ok(()),
     }
 }

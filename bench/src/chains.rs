@@ -61,9 +61,8 @@ fn explain() {
     }
 }
 
-/// Runs all, and prints table and targets.
-pub fn run() -> Result<(), String> {
-    explain();
+/// Times all.
+pub fn measure() -> Result<Vec<Row>, String> {
     let mut all = competitors()?;
     let columns = COLUMNS.len();
     let figures = race(all.len() * columns, Span::short(SECONDS), |work, count| {
@@ -71,10 +70,14 @@ pub fn run() -> Result<(), String> {
         subject.measure(work % columns, count)
     });
     let names = all.iter().map(|(name, _)| *name);
-    let rows: Vec<Row> = names
+    Ok(names
         .zip(figures.chunks(columns))
         .map(|(name, figures)| Row::new(name, figures))
-        .collect();
-    report::print_all(&rows);
-    Ok(())
+        .collect())
+}
+
+/// Prints table and targets.
+pub fn print(rows: &[Row]) {
+    explain();
+    report::print_all(rows);
 }

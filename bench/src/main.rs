@@ -3,6 +3,7 @@
 mod calls;
 mod chains;
 mod child;
+mod clock;
 mod library;
 mod nettle;
 mod openssl;
@@ -22,10 +23,19 @@ const PLOT: &str = "--plot";
 /// Prints everything; the plot goes to the file, if one is named.
 fn run(plot: Option<&str>) -> Result<(), String> {
     std::env::remove_var(child::VARIABLE);
-    println!("Times are in nanoseconds: the minimum over many short repetitions, taken in turn.");
-    println!("In brackets: the multiple of the proved code's time.\n");
-    chains::run()?;
-    calls::run(plot.map(Path::new))
+    eprintln!("Measuring takes about two minutes.");
+    let (mut rows, mut results) = (chains::measure()?, calls::measure()?);
+    let pace = clock::best_pace();
+    let figures = rows.iter_mut().flat_map(|row| &mut row.figures);
+    figures.for_each(|figure| figure.scale(pace));
+    results.scale(pace);
+    println!(
+        "Times are in nanoseconds: the minimum over many short repetitions, taken in turn and"
+    );
+    println!("brought to the highest speed of the CPU's clock that was seen. In brackets: the");
+    println!("multiple of the proved code's time.\n");
+    chains::print(&rows);
+    calls::print(&results, plot.map(Path::new))
 }
 
 /// The child: Nettle without AES-NI, for one of the tables.

@@ -1,7 +1,7 @@
 //! What is compared: the columns of the table and what a competitor can do.
 
+use crate::clock::stopwatch;
 use crate::plain::Plain;
-use crate::timing::stopwatch;
 use std::fmt;
 use std::hint::black_box;
 use std::time::Duration;

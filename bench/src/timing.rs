@@ -3,7 +3,6 @@
 //! Each is timed by the least of many short repetitions, and the repetitions of all are
 //! taken in turn, so that a busy machine disturbs little and all alike.
 
-use std::ffi::c_int;
 use std::time::{Duration, Instant};
 
 /// How many repetitions in a row make nothing better before the figures stand.
@@ -18,9 +17,6 @@ const SETTLING: usize = 40;
 /// How many times longer than its preparation a repetition is made, so that the preparation
 /// stays under 0.5 % even if the machine was busy while that was settled.
 const PREPARATIONS: u32 = 400;
-
-/// Repetitions longer than this hardly ever have the CPU to themselves on a busy machine.
-const LONG: Duration = Duration::from_millis(5);
 
 /// How long a repetition takes at least, and all of them together at the most.
 #[derive(Clone, Copy)]
@@ -42,7 +38,7 @@ impl Span {
 /// What was found for one piece of work.
 #[derive(Clone, Copy)]
 pub struct Figure {
-    /// Nanoseconds for one time.
+    /// Nanoseconds for one time; as the clock's steps until they are scaled.
     pub each: f64,
     /// Nanoseconds that a repetition takes before any work is done.
     pub preparation: f64,
@@ -50,43 +46,11 @@ pub struct Figure {
     pub share: f64,
 }
 
-/// C's struct timespec.
-#[repr(C)]
-struct Moment {
-    seconds: i64,
-    nanoseconds: i64,
-}
-
-extern "C" {
-    fn clock_gettime(clock: c_int, moment: *mut Moment) -> c_int;
-}
-
-/// The clock that stands still while another process has this one's CPU.
-const CLOCK_THREAD_CPUTIME_ID: c_int = 3;
-
-/// How long this thread has been running.
-fn running() -> Duration {
-    let mut moment = Moment {
-        seconds: 0,
-        nanoseconds: 0,
-    };
-    // SAFETY: the moment has the form that C gives it.
-    let done = unsafe { clock_gettime(CLOCK_THREAD_CPUTIME_ID, &mut moment) };
-    assert_eq!(done, 0, "the system has this clock");
-    Duration::new(moment.seconds as u64, moment.nanoseconds as u32)
-}
-
-/// Runs a piece of work that many times and says how long it took, after a short warm-up. Where
-/// that is long, other processes come between, and their time is left out.
-pub fn stopwatch(count: u64, mut run: impl FnMut(u64)) -> Duration {
-    run(count / 8);
-    let before = running();
-    let start = Instant::now();
-    run(count);
-    let taken = start.elapsed();
-    match taken < LONG {
-        true => taken,
-        false => taken.min(running() - before),
+impl Figure {
+    /// Makes nanoseconds of steps that last so long.
+    pub fn scale(&mut self, pace: f64) {
+        self.each *= pace;
+        self.preparation *= pace;
     }
 }
 

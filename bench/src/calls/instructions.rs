@@ -1,7 +1,7 @@
 //! One block by the CPU's AES instructions alone, in a chain: what no AES of that CPU can beat.
 
+use crate::clock::stopwatch;
 use crate::subject::{Subject, KEY};
-use crate::timing::stopwatch;
 use reference::aes::expand;
 use std::hint::black_box;
 use std::time::Duration;

@@ -52,6 +52,14 @@ impl Results {
         }
     }
 
+    /// Makes nanoseconds of steps that last so long.
+    pub fn scale(&mut self, pace: f64) {
+        let Times { rows, blocks } = &mut self.times;
+        for time in rows.iter_mut().chain(blocks).flatten() {
+            *time *= pace;
+        }
+    }
+
     /// Where a work is in the list.
     fn place(&self, call: Call, depth: u32) -> Option<usize> {
         let work = Work { call, depth };

@@ -2,8 +2,8 @@
 
 use super::card::{Calls, Card};
 use super::{works, Call, Work, DEEPEST, DEPTHS};
+use crate::clock::stopwatch;
 use crate::subject::Subject;
-use crate::timing::stopwatch;
 use std::hint::black_box;
 use std::rc::Rc;
 use std::time::Duration;
