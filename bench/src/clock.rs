@@ -82,7 +82,8 @@ fn time(run: impl FnOnce()) -> Duration {
 }
 
 /// Runs a piece of work that many times, after a short warm-up, and says how long it took, in
-/// steps. The higher speed of before and after counts: it never makes the work seem too fast.
+/// steps. The higher speed of before and after counts, so that a change meanwhile makes the work
+/// seem slow and not fast, unless the speed was higher only in between.
 pub fn stopwatch(count: u64, mut run: impl FnMut(u64)) -> Duration {
     let before = pace();
     run(count / 8);
