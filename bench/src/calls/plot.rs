@@ -51,7 +51,7 @@ const LOOKS: [Look; 7] = [
     look(PROVED, "proved", "#e0522a", 3.5, "none"),
     look(MERKLE, "SHA-256 Merkle tree", "#b98a00", 2.0, "2 3"),
     look(WITH, "tree over Nettle, AES-NI", "#2f86d0", 2.0, "7 4"),
-    look(LIMIT, "limit (AES-NI alone)", "#1a9a76", 2.5, "3 3"),
+    look(LIMIT, "limit (its AES blocks alone)", "#1a9a76", 2.5, "3 3"),
 ];
 
 const fn look(

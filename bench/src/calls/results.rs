@@ -1,6 +1,7 @@
 //! What was found, by row, call and depth.
 
 use super::{Call, Work, INSTRUCTIONS};
+use crate::subject::OPENSSL;
 use crate::subject::PROVED;
 
 /// The times of each row, place after place, and of one block by each yardstick in turn with them.
@@ -98,8 +99,14 @@ impl Results {
         Some(block * Work { call, depth }.aes_calls() as f64)
     }
 
-    /// The definition's AES calls by the AES instructions alone.
+    /// The definition's AES calls at the cost of OpenSSL's block, or of the AES instructions alone where it is missing.
     pub fn limit(&self, call: Call, depth: u32) -> Option<f64> {
+        self.at_block_of(OPENSSL, call, depth)
+            .or_else(|| self.at_instructions(call, depth))
+    }
+
+    /// The same with the CPU's AES instructions alone.
+    pub fn at_instructions(&self, call: Call, depth: u32) -> Option<f64> {
         self.at_block_of(INSTRUCTIONS, call, depth)
     }
 }

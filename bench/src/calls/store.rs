@@ -11,8 +11,8 @@ use std::time::Duration;
 /// What a store holds.
 pub type Block = [u8; 64];
 
-/// How many block numbers are drawn for each depth; a power of two.
-const DRAWN: usize = 4096;
+/// How many block numbers are drawn for each depth; a power of two. Their paths fit into a second-level cache at every depth.
+pub const DRAWN: usize = 256;
 
 /// How many different blocks are written.
 const BLOCKS: usize = 32;
@@ -162,11 +162,20 @@ fn pick<'a>(
 }
 
 impl Subject for Stores {
-    /// Times a call on a warm store.
+    /// Times a call on a warm store: the drawn blocks for a read or a write, else the whole of it.
     fn measure(&mut self, place: usize, count: u64) -> Duration {
         let work = self.works[place];
         if count > 0 {
-            pick(&mut self.filled, &mut self.spare, work).warm();
+            match work.call {
+                Call::Read | Call::Write => self.run(
+                    Work {
+                        call: Call::Read,
+                        ..work
+                    },
+                    DRAWN as u64,
+                ),
+                _ => pick(&mut self.filled, &mut self.spare, work).warm(),
+            }
         }
         stopwatch(count, |count| self.run(work, count))
     }

@@ -2,7 +2,8 @@
 
 use super::card::card_bytes;
 use super::results::Results;
-use super::{merkle, Call, Work, DEEPEST, DEPTHS, INSTRUCTIONS};
+use super::store::DRAWN;
+use super::{merkle, Call, Work, DEEPEST, DEPTHS};
 use crate::report::{print_head, print_line};
 use crate::subject::{OPENSSL, PROVED, WITH, WITHOUT};
 
@@ -34,7 +35,7 @@ fn nanoseconds(time: f64) -> String {
     exact(((time / scale).round() * scale) as u64)
 }
 
-/// Says which cards are in a near cache when they are timed.
+/// Says what is in a near cache when it is timed.
 fn explain_cards() {
     let cache = std::fs::read_to_string(CACHE).unwrap_or_default();
     let kibibytes: Option<usize> = cache.trim().trim_end_matches('K').parse().ok();
@@ -42,15 +43,16 @@ fn explain_cards() {
         Some(size) => format!("the second-level cache ({size} KiB)"),
         None => "the second-level cache (size unknown)".to_string(),
     };
+    println!("{DRAWN} block numbers and the blocks are drawn before the clock starts. Before each repetition of");
     println!(
-        "Block numbers and blocks are drawn before the clock starts. Before each repetition the"
+        "reads or writes those blocks are read once; before a check or a format the whole card"
     );
-    println!("whole card is read once, so that it is warm where it fits into {named}:");
+    println!("is, which is warm then where it fits into {named}:");
     for depth in DEPTHS {
         let bytes = card_bytes(depth);
         let fits = match kibibytes {
             Some(size) if bytes <= 1024 * size => "fits",
-            Some(_) => "does not fit, most blocks come from beyond that cache",
+            Some(_) => "does not fit",
             None => "unknown",
         };
         println!("- depth {depth}: {} bytes, {fits}", exact(bytes as u64));
@@ -59,7 +61,7 @@ fn explain_cards() {
 }
 
 /// Says what the rows are.
-fn explain_rows(results: &Results) {
+fn explain_rows() {
     println!("Nettle and OpenSSL: the same tree in plain C over their CMAC. Each call sets the key, since");
     println!("it comes with the anchor; `reference/` sets it for each tag.");
     println!(
@@ -67,13 +69,10 @@ fn explain_rows(results: &Results) {
         merkle::whose()
     );
     println!("root trusted. A read verifies its path; a write verifies it and makes it anew.");
-    match results.block(INSTRUCTIONS) {
-        Some((least, most)) => {
-            println!("Limit: the definition's AES calls, each at the cost of a block in a chain of the CPU's AES");
-            println!("instructions alone, with nothing around them: {least:.2} to {most:.2} ns in turn with the calls.\n");
-        }
-        None => println!("Limit: not measured, this CPU has no AES instructions.\n"),
-    }
+    println!(
+        "Limit: the definition's AES calls, each at the cost of one of OpenSSL's blocks with AES"
+    );
+    println!("instructions (where OpenSSL is missing, of the bare instructions).\n");
 }
 
 /// A time and its multiple of the proved code's.
@@ -94,7 +93,7 @@ fn print_call(results: &Results, call: Call) {
         let at = |depth| cell(results.time(name, call, depth), results.proved(call, depth));
         print_line([name.to_string()].into_iter().chain(DEPTHS.map(at)));
     }
-    if results.block(INSTRUCTIONS).is_some() {
+    if results.limit(call, DEEPEST).is_some() {
         let at = |depth| cell(results.limit(call, depth), results.proved(call, depth));
         print_line([LIMIT.to_string()].into_iter().chain(DEPTHS.map(at)));
     }
@@ -124,7 +123,7 @@ fn print_per_aes_call(results: &Results) {
 
 /// Prints how many times the limit the proved code takes.
 fn print_times_limit(results: &Results) {
-    if results.block(INSTRUCTIONS).is_none() {
+    if results.limit(Call::Read, DEEPEST).is_none() {
         return;
     }
     println!("The proved code as a multiple of the limit:\n");
@@ -163,7 +162,7 @@ fn print_fixed(results: &Results) {
 /// Prints all tables.
 pub fn print_all(results: &Results) {
     explain_cards();
-    explain_rows(results);
+    explain_rows();
     for call in CALLS {
         print_call(results, call);
     }

@@ -1,7 +1,7 @@
 //! The targets of the calls.
 
 use super::results::Results;
-use super::{Call, DEEPEST, DEPTHS};
+use super::{Call, DEEPEST, DEPTHS, INSTRUCTIONS};
 use crate::subject::{OPENSSL, WITHOUT};
 
 /// The calls that have targets.
@@ -76,13 +76,20 @@ pub fn print_all(results: &Results) {
             results.limit(call, depth)
         });
     }
-    let text = format!("within {LIMIT_TARGET} of its AES calls at the cost of OpenSSL's blocks");
-    for call in CALLS {
-        let other = |depth| results.at_block_of(OPENSSL, call, depth);
-        print_target(results, &text, LIMIT_TARGET, call, other);
-    }
     if let Some((least, most)) = results.block(OPENSSL) {
-        println!("\nOpenSSL's block, one call of EVP_EncryptUpdate: {least:.2} to {most:.2} ns in turn with the calls.");
+        println!("\nThe limit's block is OpenSSL's with AES instructions, one call of EVP_EncryptUpdate in a chain: {least:.2} to {most:.2} ns in turn with the calls.");
+    }
+    if let Some((least, most)) = results.block(INSTRUCTIONS) {
+        println!("The bare instructions take {least:.2} to {most:.2} ns; as multiples of that, at depths {low}, {middle} and {high}:\n");
+        for call in CALLS {
+            let shown = DEPTHS.map(|depth| {
+                let bare = results.at_instructions(call, depth);
+                bare.map_or("-".to_string(), |bare| {
+                    format!("{:.2}", results.proved(call, depth) / bare)
+                })
+            });
+            println!("- {call}: {}", shown.join(", "));
+        }
     }
     println!();
 }
