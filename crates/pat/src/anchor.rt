@@ -18,7 +18,7 @@ fn number_at(s: &[u8], o: usize) -> u64
 }
 
 // The anchor that the bytes stand for.
-pub fn of(s: &[u8]) -> Anchor
+pub(crate) fn of(s: &[u8]) -> Anchor
     requires { ⌜ length (now s) ≡ 32 ⌝ }
     ensures { λ r. ⌜ r ≡ anchorOf (now (s .entry)) ⌝ }
 {
@@ -33,7 +33,7 @@ pub fn of(s: &[u8]) -> Anchor
 }
 
 // Puts a root nonce into the bytes.
-pub fn put_root(s: &mut [u8], t: Nonce)
+pub(crate) fn put_root(s: &mut [u8], t: Nonce)
     requires { ⌜ length (now s) ≡ 32 ⌝ }
     ensures { λ _. ⌜ now (s .exit) ≡ take 24 (now (s .entry)) ++ be8 (t .0) ⌝ }
 {

@@ -7,13 +7,19 @@ ghost use Rattle.tree.specs.Calls.{write, outcome};
 ghost use Rattle.pat.specs.Host.{Codes};
 
 // What it answers.
-pub struct Reply {
+pub(crate) struct Reply {
     pub code: u64,
     pub anchor: Anchor,
 }
 
 // Writes a block.
-pub fn write(a: Anchor, card: &mut [u8], index: u64, block: &[u8], ranges: &mut [u8]) -> Reply
+pub(crate) fn write(
+    a: Anchor,
+    card: &mut [u8],
+    index: u64,
+    block: &[u8],
+    ranges: &mut [u8],
+) -> Reply
     ensures { λ r. ⌜ Codes (outcome (cmacOf (a .key)) a (now (card .entry)) (write index (now (block .entry)) (now (ranges .entry)))) (r .code) (r .anchor) (now (card .exit)) (now (ranges .exit)) ⌝ }
 {
     let reply = tree::write(a, card, BlockIndex(index), block, ranges);

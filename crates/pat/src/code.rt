@@ -6,7 +6,7 @@ ghost use Rattle.tree.specs.Answer.{nodeOf};
 ghost use Rattle.pat.specs.Host.{codeOf};
 
 // The number, plus 256 times the node.
-pub fn of(a: Answer) -> u64
+pub(crate) fn of(a: Answer) -> u64
     requires { ⌜ nodeOf a < 131072 ⌝ }
     ensures { λ r. ⌜ r ≡ codeOf a ⌝ }
 {

@@ -5,7 +5,7 @@ ghost use Prim.Native.Nat.{_^_, _≤_};
 ghost use Rattle.tree.specs.Layout.{IsNode, size, offset};
 
 // How many blocks a card of depth n has, which is also its first leaf.
-pub fn leaves(n: u64) -> u64
+pub(crate) fn leaves(n: u64) -> u64
     requires { ⌜ n ≤ 16 ⌝ }
     ensures { λ r. ⌜ r ≡ 2 ^ n ⌝ }
 {
@@ -13,7 +13,7 @@ pub fn leaves(n: u64) -> u64
 }
 
 // How many bytes the label of u has.
-pub fn size(n: u64, u: Node) -> usize
+pub(crate) fn size(n: u64, u: Node) -> usize
     requires { ⌜ n ≤ 16 ⌝ }
     ensures { λ r. ⌜ r ≡ size n (u .0) ⌝ }
 {
@@ -21,7 +21,7 @@ pub fn size(n: u64, u: Node) -> usize
 }
 
 // Where the entry of u begins.
-pub fn offset(n: u64, u: Node) -> usize
+pub(crate) fn offset(n: u64, u: Node) -> usize
     requires { ⌜ (1 ≤ n) × (n ≤ 16) ⌝ }
     requires { ⌜ IsNode n (u .0) ⌝ }
     ensures { λ r. ⌜ r ≡ offset n (u .0) ⌝ }

@@ -7,13 +7,13 @@ ghost use Rattle.tree.specs.Limits.{depthLimit, nonceLimit, cardLimit, b
 ghost use Rattle.tree.specs.Tests.{failing};
 
 // What a test answers.
-pub enum Test {
+pub(crate) enum Test {
     Passed,
     Failed,
 }
 
 // 1
-pub fn depth(n: u64) -> Test
+pub(crate) fn depth(n: u64) -> Test
     ensures { λ r. ⌜ r ≡ failing (depthLimit n .fails) ⌝ }
 {
     if n == 0 {
@@ -26,7 +26,7 @@ pub fn depth(n: u64) -> Test
 }
 
 // 2
-pub fn root_nonce(n: u64, t: Nonce) -> Test
+pub(crate) fn root_nonce(n: u64, t: Nonce) -> Test
     requires { ⌜ 1 ≤ n ⌝ }
     ensures { λ r. ⌜ r ≡ failing (nonceLimit n (t .0) .fails) ⌝ }
 {
@@ -37,7 +37,7 @@ pub fn root_nonce(n: u64, t: Nonce) -> Test
 }
 
 // 3
-pub fn card_length(n: u64, len: usize) -> Test
+pub(crate) fn card_length(n: u64, len: usize) -> Test
     requires { ⌜ n ≤ 16 ⌝ }
     ensures { λ r. ⌜ r ≡ failing (cardLimit n len .fails) ⌝ }
 {
@@ -48,7 +48,7 @@ pub fn card_length(n: u64, len: usize) -> Test
 }
 
 // 4
-pub fn block_number(n: u64, i: BlockIndex) -> Test
+pub(crate) fn block_number(n: u64, i: BlockIndex) -> Test
     requires { ⌜ n ≤ 16 ⌝ }
     ensures { λ r. ⌜ r ≡ failing (blockLimit n (i .0) .fails) ⌝ }
 {
@@ -59,7 +59,7 @@ pub fn block_number(n: u64, i: BlockIndex) -> Test
 }
 
 // 5
-pub fn block_length(len: usize) -> Test
+pub(crate) fn block_length(len: usize) -> Test
     ensures { λ r. ⌜ r ≡ failing (lengthLimit len .fails) ⌝ }
 {
     if len == 64 {
@@ -69,7 +69,7 @@ pub fn block_length(len: usize) -> Test
 }
 
 // 6
-pub fn range_length(n: u64, len: usize) -> Test
+pub(crate) fn range_length(n: u64, len: usize) -> Test
     requires { ⌜ n ≤ 16 ⌝ }
     ensures { λ r. ⌜ r ≡ failing (rangeLimit n len .fails) ⌝ }
 {
@@ -80,7 +80,7 @@ pub fn range_length(n: u64, len: usize) -> Test
 }
 
 // 7
-pub fn nonces_spent(n: u64, r: Nonce) -> Test
+pub(crate) fn nonces_spent(n: u64, r: Nonce) -> Test
     ensures { λ q. ⌜ q ≡ failing (spentLimit n (r .0) .fails) ⌝ }
 {
     if 18446744073709551615 - n < r.0 {

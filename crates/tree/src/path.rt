@@ -6,7 +6,7 @@ ghost use Prim.Native.Nat.{_^_, _≤_, _<_};
 ghost use Rattle.tree.specs.Nodes.{pathNode, sibling};
 
 // u_y, at level y of the path to block i.
-pub fn node(n: u64, i: BlockIndex, y: u64) -> Node
+pub(crate) fn node(n: u64, i: BlockIndex, y: u64) -> Node
     requires { ⌜ (y ≤ n) × (n ≤ 16) ⌝ }
     requires { ⌜ i .0 < 2 ^ n ⌝ }
     ensures { λ r. ⌜ r .0 ≡ pathNode n (i .0) y ⌝ }
@@ -16,7 +16,7 @@ pub fn node(n: u64, i: BlockIndex, y: u64) -> Node
 }
 
 // The other child of u's parent.
-pub fn sibling(u: Node) -> Node
+pub(crate) fn sibling(u: Node) -> Node
     requires { ⌜ u .0 < 131072 ⌝ }
     ensures { λ r. ⌜ r .0 ≡ sibling (u .0) ⌝ }
 {

@@ -39,7 +39,7 @@ fn put_node(n: u64, u: Node, v: Node, s: &mut [u8], o: usize)
 }
 
 // All of a write to block i.
-pub fn fill(n: u64, i: BlockIndex, s: &mut [u8])
+pub(crate) fn fill(n: u64, i: BlockIndex, s: &mut [u8])
     requires { ⌜ (1 ≤ n) × (n ≤ 16) ⌝ }
     requires { ⌜ i .0 < 2 ^ n ⌝ }
     requires { ⌜ 16 * n ≤ length (now s) ⌝ }

@@ -81,7 +81,7 @@ fn put_entry<'a>(
 }
 
 // Every entry anew: all nonces t, all blocks zero.
-pub fn blank<'a>(
+pub(crate) fn blank<'a>(
     t: &[u8; 2048],
     w: &'a [u8; 176],
     k: &'a [u8; 32],
@@ -104,7 +104,7 @@ pub fn blank<'a>(
 }
 
 // Block i anew, with the nonces after the last one used: u_y gets its label and its tag, its sibling the tag.
-pub fn block<'a>(
+pub(crate) fn block<'a>(
     t: &[u8; 2048],
     w: &'a [u8; 176],
     k: &'a [u8; 32],

@@ -17,7 +17,7 @@ ghost use Rattle.tree.specs.Card.{right};
 ghost use Rattle.tree.specs.Tests.{passing};
 
 // The tag of a node that has the label x, its parent's label p, and that side.
-pub fn of<'a>(
+pub(crate) fn of<'a>(
     t: &[u8; 2048],
     w: &'a [u8; 176],
     k: &'a [u8; 32],
@@ -39,7 +39,7 @@ pub fn of<'a>(
 }
 
 // Whether it is the tag beside it.
-pub fn test<'a>(
+pub(crate) fn test<'a>(
     t: &[u8; 2048],
     w: &'a [u8; 176],
     k: &'a [u8; 32],
@@ -61,7 +61,7 @@ pub fn test<'a>(
 }
 
 // The label of the root or of an inner node.
-pub fn nonce_at(n: u64, root: Nonce, card: &[u8], u: Node) -> u64
+pub(crate) fn nonce_at(n: u64, root: Nonce, card: &[u8], u: Node) -> u64
     requires { ⌜ IsCard n (now card) ⌝ }
     requires { ⌜ (1 ≤ u .0) × (u .0 < 2 ^ n) ⌝ }
     ensures { λ r. ⌜ bytes 8 r ≡ labels n (root .0) (now (card .entry)) (u .0) ⌝ }
@@ -73,7 +73,7 @@ pub fn nonce_at(n: u64, root: Nonce, card: &[u8], u: Node) -> u64
 }
 
 // Whether the tag of u is right.
-pub fn node<'a>(
+pub(crate) fn node<'a>(
     t: &[u8; 2048],
     w: &'a [u8; 176],
     k: &'a [u8; 32],

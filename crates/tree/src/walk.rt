@@ -17,7 +17,7 @@ ghost use Rattle.tree.specs.Card.{firstWrong};
 ghost use Rattle.tree.specs.Calls.{verdict};
 
 // A read's: the path from level 1 down to the leaf.
-pub fn path<'a>(
+pub(crate) fn path<'a>(
     t: &[u8; 2048],
     w: &'a [u8; 176],
     k: &'a [u8; 32],
@@ -43,7 +43,7 @@ pub fn path<'a>(
 }
 
 // A write's: each node of the path and then its sibling, and of the last level the sibling alone.
-pub fn pairs<'a>(
+pub(crate) fn pairs<'a>(
     t: &[u8; 2048],
     w: &'a [u8; 176],
     k: &'a [u8; 32],
@@ -78,7 +78,7 @@ pub fn pairs<'a>(
 }
 
 // A check's: all, from 2 upwards.
-pub fn all<'a>(
+pub(crate) fn all<'a>(
     t: &[u8; 2048],
     w: &'a [u8; 176],
     k: &'a [u8; 32],

@@ -20,7 +20,7 @@ ghost use Rattle.tree.specs.Limits.{firstFailing};
 ghost use Rattle.tree.specs.Calls.{Gives, read, write, check, limits, outcome, format};
 
 // Format, with the anchor that it gives.
-pub fn format(a: Anchor, card: &mut [u8]) -> Reply
+pub(crate) fn format(a: Anchor, card: &mut [u8]) -> Reply
     requires { ⌜ IsCard (a .depth) (now card) ⌝ }
     requires { ⌜ a .root .0 ≡ 0 ⌝ }
     ensures { λ r. ⌜ Gives (format (cmacOf (a .key)) (a .key) (a .depth) (now (card .entry))) (r .answer) (r .anchor) (now (card .exit)) [] ⌝ }
@@ -38,7 +38,7 @@ pub fn format(a: Anchor, card: &mut [u8]) -> Reply
 }
 
 // Read.
-pub fn read(a: Anchor, card: &[u8], i: BlockIndex, buffer: &mut [u8]) -> Answer
+pub(crate) fn read(a: Anchor, card: &[u8], i: BlockIndex, buffer: &mut [u8]) -> Answer
     requires { ⌜ firstFailing (limits a (now card) (read (i .0) (now buffer))) ≡ none ⌝ }
     ensures { λ r. ⌜ Gives (outcome (cmacOf (a .key)) a (now (card .entry)) (read (i .0) (now (buffer .entry)))) r a (now (card .entry)) (now (buffer .exit)) ⌝ }
 {
@@ -68,7 +68,13 @@ fn copy_block(n: u64, card: &[u8], i: BlockIndex, buffer: &mut [u8])
 }
 
 // Write.
-pub fn write(a: Anchor, card: &mut [u8], i: BlockIndex, block: &[u8], ranges: &mut [u8]) -> Reply
+pub(crate) fn write(
+    a: Anchor,
+    card: &mut [u8],
+    i: BlockIndex,
+    block: &[u8],
+    ranges: &mut [u8],
+) -> Reply
     requires { ⌜ firstFailing (limits a (now card) (write (i .0) (now block) (now ranges))) ≡ none ⌝ }
     ensures { λ r. ⌜ Gives (outcome (cmacOf (a .key)) a (now (card .entry)) (write (i .0) (now (block .entry)) (now (ranges .entry)))) (r .answer) (r .anchor) (now (card .exit)) (now (ranges .exit)) ⌝ }
 {
@@ -98,7 +104,7 @@ pub fn write(a: Anchor, card: &mut [u8], i: BlockIndex, block: &[u8], ranges: &m
 }
 
 // Check.
-pub fn check(a: Anchor, card: &[u8]) -> Answer
+pub(crate) fn check(a: Anchor, card: &[u8]) -> Answer
     requires { ⌜ firstFailing (limits a (now card) check) ≡ none ⌝ }
     ensures { λ r. ⌜ Gives (outcome (cmacOf (a .key)) a (now (card .entry)) check) r a (now (card .entry)) [] ⌝ }
 {
