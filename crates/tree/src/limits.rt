@@ -1,4 +1,4 @@
-// The limits, each as a test of its own.
+// The limits, each as a test of its own, by document 01's numbers. A comment says what is passed.
 use crate::BlockIndex;
 use crate::Nonce;
 ghost use mathlib.Core.Path.{_≡_};
@@ -12,7 +12,7 @@ pub(crate) enum Test {
     Failed,
 }
 
-// 1
+// 1: the depth is 1 to 16.
 pub(crate) fn depth(n: u64) -> Test
     ensures { λ r. ⌜ r ≡ failing (depthLimit n .fails) ⌝ }
 {
@@ -25,7 +25,7 @@ pub(crate) fn depth(n: u64) -> Test
     Test::Passed
 }
 
-// 2
+// 2: the root nonce is a multiple of the depth.
 pub(crate) fn root_nonce(n: u64, t: Nonce) -> Test
     requires { ⌜ 1 ≤ n ⌝ }
     ensures { λ r. ⌜ r ≡ failing (nonceLimit n (t .0) .fails) ⌝ }
@@ -36,7 +36,7 @@ pub(crate) fn root_nonce(n: u64, t: Nonce) -> Test
     Test::Failed
 }
 
-// 3
+// 3: the card has its length.
 pub(crate) fn card_length(n: u64, len: usize) -> Test
     requires { ⌜ n ≤ 16 ⌝ }
     ensures { λ r. ⌜ r ≡ failing (cardLimit n len .fails) ⌝ }
@@ -47,7 +47,7 @@ pub(crate) fn card_length(n: u64, len: usize) -> Test
     Test::Failed
 }
 
-// 4
+// 4: there is such a block.
 pub(crate) fn block_number(n: u64, i: BlockIndex) -> Test
     requires { ⌜ n ≤ 16 ⌝ }
     ensures { λ r. ⌜ r ≡ failing (blockLimit n (i .0) .fails) ⌝ }
@@ -58,7 +58,7 @@ pub(crate) fn block_number(n: u64, i: BlockIndex) -> Test
     Test::Failed
 }
 
-// 5
+// 5: a read buffer or a new block has 64 bytes.
 pub(crate) fn block_length(len: usize) -> Test
     ensures { λ r. ⌜ r ≡ failing (lengthLimit len .fails) ⌝ }
 {
@@ -68,7 +68,7 @@ pub(crate) fn block_length(len: usize) -> Test
     Test::Failed
 }
 
-// 6
+// 6: the range buffer has room.
 pub(crate) fn range_length(n: u64, len: usize) -> Test
     requires { ⌜ n ≤ 16 ⌝ }
     ensures { λ r. ⌜ r ≡ failing (rangeLimit n len .fails) ⌝ }
@@ -79,7 +79,7 @@ pub(crate) fn range_length(n: u64, len: usize) -> Test
     Test::Passed
 }
 
-// 7
+// 7: the nonces after r suffice for one more write.
 pub(crate) fn nonces_spent(n: u64, r: Nonce) -> Test
     ensures { λ q. ⌜ q ≡ failing (spentLimit n (r .0) .fails) ⌝ }
 {

@@ -50,8 +50,8 @@ static struct given draw_given(const struct pat_anchor *anchor, size_t card_len)
     return given;
 }
 
-// One write both ways, and everything compared. Says whether it was accepted.
-static bool both(struct given *given, uint8_t *card, uint8_t *other, size_t card_len) {
+// One write both ways, and everything compared. Gives the answer.
+static uint64_t both(struct given *given, uint8_t *card, uint8_t *other, size_t card_len) {
     uint8_t bytes[PAT_ANCHOR_BYTES], after[PAT_ANCHOR_BYTES], block[PAT_BLOCK_BYTES];
     uint8_t ranges[RANGES_LEN], other_ranges[RANGES_LEN];
     fill(block, sizeof block, draw());
@@ -71,7 +71,7 @@ static bool both(struct given *given, uint8_t *card, uint8_t *other, size_t card
            (unsigned long long)answer);
     expect(memcmp(ranges, other_ranges, sizeof ranges) == 0, "one list of ranges after answer %llu",
            (unsigned long long)answer);
-    return answer == PAT_ACCEPTED;
+    return answer;
 }
 
 static void flip(uint8_t *card, size_t card_len, size_t at) {
@@ -81,7 +81,7 @@ static void flip(uint8_t *card, size_t card_len, size_t at) {
 
 // A history of one depth: an accepted write goes on. A flip away from the path may be accepted; it
 // then stays, on both cards.
-static void history(unsigned depth, unsigned steps, unsigned seen[2]) {
+static void history(unsigned depth, unsigned steps, unsigned seen[PAT_REFUSED_TAG + 1]) {
     struct store store = make_store(depth);
     struct pat_anchor anchor = {{0}, depth, 0};
     uint8_t *other = malloc(store.card_len);
@@ -91,9 +91,9 @@ static void history(unsigned depth, unsigned steps, unsigned seen[2]) {
         struct given given = draw_given(&anchor, store.card_len);
         flip(store.card, store.card_len, given.flipped);
         flip(other, store.card_len, given.flipped);
-        bool accepted = both(&given, store.card, other, store.card_len);
-        seen[accepted]++;
-        if (accepted) {
+        uint64_t answer = both(&given, store.card, other, store.card_len);
+        seen[pat_refusal(answer)]++;
+        if (answer == PAT_ACCEPTED) {
             anchor = given.anchor;
         } else {
             flip(store.card, store.card_len, given.flipped);
@@ -105,10 +105,12 @@ static void history(unsigned depth, unsigned steps, unsigned seen[2]) {
 }
 
 void test_in_place(void) {
-    unsigned seen[2] = {0};
+    unsigned seen[PAT_REFUSED_TAG + 1] = {0};
     expect(sizeof(struct pat_anchor) == 32, "the struct has 32 bytes");
     for (unsigned round = 0; round < 20; round++)
         for (unsigned depth = 1; depth <= 7; depth++)
             history(depth, 40, seen);
-    expect(seen[0] > 1000 && seen[1] > 1500, "%u refused and %u accepted", seen[0], seen[1]);
+    expect(seen[PAT_ACCEPTED] > 1500, "%u accepted", seen[PAT_ACCEPTED]);
+    for (unsigned k = PAT_REFUSED_DEPTH; k <= PAT_REFUSED_TAG; k++)
+        expect(seen[k] > 100, "refusal %u came up %u times", k, seen[k]);
 }
