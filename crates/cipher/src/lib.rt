@@ -11,16 +11,16 @@ ghost use Rattle.cipher.specs.Cipher.{cipherOf};
 ghost use Rattle.cipher.specs.Tables.{IsRoundTable};
 ghost use Rattle.words.specs.Words.{blockOf};
 
-// One block under the expanded key w.
-pub fn encrypt(t: &[u8; 2048], w: &[u8; 176], input: Block) -> Block
-    requires { ⌜ IsRoundTable (now t) ⌝ }
-    ensures { λ r. ⌜ blockOf r ≡ cipherOf (now (w .entry)) (blockOf input) ⌝ }
+// One block under an expanded key.
+pub fn encrypt(table: &[u8; 2048], schedule: &[u8; 176], input: Block) -> Block
+    requires { ⌜ IsRoundTable (now table) ⌝ }
+    ensures { λ r. ⌜ blockOf r ≡ cipherOf (now (schedule .entry)) (blockOf input) ⌝ }
 {
-    let mut s = words::split(words::xored(input, words::block_at(w, 0)));
+    let mut state = words::split(words::xored(input, words::block_at(schedule, 0)));
     let mut i: usize = 0;
     while i < 9 {
         i += 1;
-        s = round::whole(t, words::columns_at(w, 16 * i), s);
+        state = round::whole(table, words::columns_at(schedule, 16 * i), state);
     }
-    words::joined(round::last(t, words::columns_at(w, 160), s))
+    words::joined(round::last(table, words::columns_at(schedule, 160), state))
 }

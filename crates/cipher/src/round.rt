@@ -10,73 +10,77 @@ ghost use Rattle.cipher.specs.State.{subBytes, shiftRows, mixColumn, mix
 ghost use Rattle.cipher.specs.Tables.{entry, IsRoundTable};
 ghost use Rattle.words.specs.Words.{bytes, stateOf};
 
-// Four bytes of the entry of b from its byte o. From byte 0, 3, 2 or 1 they are the column that b makes in row 0, 1, 2 or 3.
-fn window(t: &[u8; 2048], b: usize, o: usize) -> u32
-    requires { ⌜ IsRoundTable (now t) ⌝ }
-    requires { ⌜ (b < 256) × (o ≤ 4) ⌝ }
-    ensures { λ r. ⌜ bytes 4 r ≡ part (entry b) o 4 ⌝ }
+// Four bytes of a byte's entry from its byte `start`. From 0, 3, 2 or 1 they are the column that the byte makes in row 0, 1, 2 or 3.
+fn window(table: &[u8; 2048], byte: usize, start: usize) -> u32
+    requires { ⌜ IsRoundTable (now table) ⌝ }
+    requires { ⌜ (byte < 256) × (start ≤ 4) ⌝ }
+    ensures { λ r. ⌜ bytes 4 r ≡ part (entry byte) start 4 ⌝ }
 {
-    words::word_at(t, 8 * b + o)
+    words::word_at(table, 8 * byte + start)
 }
 
 // The substitution of a byte: byte 1 of its entry.
-fn substituted(t: &[u8; 2048], b: usize) -> u8
-    requires { ⌜ IsRoundTable (now t) ⌝ }
-    requires { ⌜ b < 256 ⌝ }
-    ensures { λ r. ⌜ r ≡ sBox b ⌝ }
+fn substituted(table: &[u8; 2048], byte: usize) -> u8
+    requires { ⌜ IsRoundTable (now table) ⌝ }
+    requires { ⌜ byte < 256 ⌝ }
+    ensures { λ r. ⌜ r ≡ sBox byte ⌝ }
 {
-    t[8 * b + 1]
+    table[8 * byte + 1]
 }
 
 // A column of a round, of the four columns that shifting the rows brings to it, and its key. The order of the terms is the one that the
 // compiler makes the fastest loop of.
-fn mixed(t: &[u8; 2048], a: u32, b: u32, c: u32, d: u32, k: u32) -> u32
-    requires { ⌜ IsRoundTable (now t) ⌝ }
-    ensures { λ r. ⌜ bytes 4 r ≡ xorWord (mixColumn (sBox (at (bytes 4 a) 0)) (sBox (at (bytes 4 b) 1)) (sBox (at (bytes 4 c) 2)) (sBox (at (bytes 4 d) 3))) (bytes 4 k) ⌝ }
+fn mixed(table: &[u8; 2048], first: u32, second: u32, third: u32, fourth: u32, key: u32) -> u32
+    requires { ⌜ IsRoundTable (now table) ⌝ }
+    ensures { λ r. ⌜ bytes 4 r ≡ xorWord
+        (mixColumn (sBox (at (bytes 4 first) 0)) (sBox (at (bytes 4 second) 1)) (sBox (at (bytes 4 third) 2)) (sBox (at (bytes 4 fourth) 3)))
+        (bytes 4 key) ⌝ }
 {
-    window(t, words::byte0(a), 0)
-        ^ window(t, words::byte3(d), 1)
-        ^ window(t, words::byte1(b), 3)
-        ^ window(t, words::byte2(c), 2)
-        ^ k
+    window(table, words::byte0(first), 0)
+        ^ window(table, words::byte3(fourth), 1)
+        ^ window(table, words::byte1(second), 3)
+        ^ window(table, words::byte2(third), 2)
+        ^ key
 }
 
 // The same in the last round, which does not mix.
-fn unmixed(t: &[u8; 2048], a: u32, b: u32, c: u32, d: u32, k: u32) -> u32
-    requires { ⌜ IsRoundTable (now t) ⌝ }
-    ensures { λ r. ⌜ bytes 4 r ≡ xorWord (sBox (at (bytes 4 a) 0) ∷ sBox (at (bytes 4 b) 1) ∷ sBox (at (bytes 4 c) 2) ∷ sBox (at (bytes 4 d) 3) ∷ []) (bytes 4 k) ⌝ }
+fn unmixed(table: &[u8; 2048], first: u32, second: u32, third: u32, fourth: u32, key: u32) -> u32
+    requires { ⌜ IsRoundTable (now table) ⌝ }
+    ensures { λ r. ⌜ bytes 4 r ≡ xorWord
+        (sBox (at (bytes 4 first) 0) ∷ sBox (at (bytes 4 second) 1) ∷ sBox (at (bytes 4 third) 2) ∷ sBox (at (bytes 4 fourth) 3) ∷ [])
+        (bytes 4 key) ⌝ }
 {
     words::word_of(
-        substituted(t, words::byte0(a)),
-        substituted(t, words::byte1(b)),
-        substituted(t, words::byte2(c)),
-        substituted(t, words::byte3(d)),
+        substituted(table, words::byte0(first)),
+        substituted(table, words::byte1(second)),
+        substituted(table, words::byte2(third)),
+        substituted(table, words::byte3(fourth)),
     )
-        ^ k
+        ^ key
 }
 
-// A round with the key k.
-pub fn whole(t: &[u8; 2048], k: Columns, s: Columns) -> Columns
-    requires { ⌜ IsRoundTable (now t) ⌝ }
-    ensures { λ r. ⌜ stateOf r ≡ addRoundKey (mixColumns (shiftRows (subBytes (stateOf s)))) (stateOf k) ⌝ }
+// A round with its key.
+pub fn whole(table: &[u8; 2048], key: Columns, state: Columns) -> Columns
+    requires { ⌜ IsRoundTable (now table) ⌝ }
+    ensures { λ r. ⌜ stateOf r ≡ addRoundKey (mixColumns (shiftRows (subBytes (stateOf state)))) (stateOf key) ⌝ }
 {
     Columns {
-        c0: mixed(t, s.c0, s.c1, s.c2, s.c3, k.c0),
-        c1: mixed(t, s.c1, s.c2, s.c3, s.c0, k.c1),
-        c2: mixed(t, s.c2, s.c3, s.c0, s.c1, k.c2),
-        c3: mixed(t, s.c3, s.c0, s.c1, s.c2, k.c3),
+        c0: mixed(table, state.c0, state.c1, state.c2, state.c3, key.c0),
+        c1: mixed(table, state.c1, state.c2, state.c3, state.c0, key.c1),
+        c2: mixed(table, state.c2, state.c3, state.c0, state.c1, key.c2),
+        c3: mixed(table, state.c3, state.c0, state.c1, state.c2, key.c3),
     }
 }
 
-// The last round, with the key k.
-pub fn last(t: &[u8; 2048], k: Columns, s: Columns) -> Columns
-    requires { ⌜ IsRoundTable (now t) ⌝ }
-    ensures { λ r. ⌜ stateOf r ≡ addRoundKey (shiftRows (subBytes (stateOf s))) (stateOf k) ⌝ }
+// The last round, with its key.
+pub fn last(table: &[u8; 2048], key: Columns, state: Columns) -> Columns
+    requires { ⌜ IsRoundTable (now table) ⌝ }
+    ensures { λ r. ⌜ stateOf r ≡ addRoundKey (shiftRows (subBytes (stateOf state))) (stateOf key) ⌝ }
 {
     Columns {
-        c0: unmixed(t, s.c0, s.c1, s.c2, s.c3, k.c0),
-        c1: unmixed(t, s.c1, s.c2, s.c3, s.c0, k.c1),
-        c2: unmixed(t, s.c2, s.c3, s.c0, s.c1, k.c2),
-        c3: unmixed(t, s.c3, s.c0, s.c1, s.c2, k.c3),
+        c0: unmixed(table, state.c0, state.c1, state.c2, state.c3, key.c0),
+        c1: unmixed(table, state.c1, state.c2, state.c3, state.c0, key.c1),
+        c2: unmixed(table, state.c2, state.c3, state.c0, state.c1, key.c2),
+        c3: unmixed(table, state.c3, state.c0, state.c1, state.c2, key.c3),
     }
 }

@@ -1,12 +1,18 @@
--- What serves many tags under one key: its expanded key and both subkeys, one after the other.
+-- What serves many tags, made once and lent: the cipher's table, and under one key its expanded key and both subkeys, one after the
+-- other. Callers know of these only what is named here.
 use Prim.Native.Nat.{ℕ}
 use mathlib.Core.Path.{_≡_}
 use mathlib.Core.List.{List, _++_}
 use Rattle.words.specs.Bytes.{part}
 use Rattle.cipher.specs.Cipher.{cipherOf, encryptOf}
 use Rattle.cipher.specs.KeyExpansion.{keyExpansion}
+use Rattle.cipher.specs.Tables.{IsRoundTable}
 use Rattle.cmac.specs.Cmac.{subkey1, subkey2, cmacWith}
 use Rattle.cmac.specs.declared.Context.{Context}
+
+-- the table that the cipher's rounds look up
+pub record IsTable (table : List ℕ) : Type 0 where
+  pub rounds : IsRoundTable table
 
 unfoldable pub subkeysOf : List ℕ → List ℕ
 subkeysOf key = subkey1 (encryptOf key) ++ subkey2 (encryptOf key)

@@ -1,13 +1,12 @@
-// AES-CMAC, RFC 4493. A caller makes the table of the rounds and a context once, and lends the table and the context's two parts to
-// every tag.
+// AES-CMAC, RFC 4493. A caller makes the cipher's table and a context once, and lends the table and the context's two parts to every
+// tag.
 mod message;
 mod subkey;
 
 use words::Block;
 ghost use mathlib.Core.Path.{_≡_};
-ghost use Rattle.cipher.specs.Tables.{IsRoundTable};
 ghost use Rattle.words.specs.Words.{blockOf};
-ghost use Rattle.cmac.specs.Context.{ContextOf, tagUnder};
+ghost use Rattle.cmac.specs.Context.{IsTable, ContextOf, tagUnder};
 
 // The expanded key, and both subkeys one after the other.
 pub struct Context {
@@ -15,42 +14,59 @@ pub struct Context {
     pub subkeys: [u8; 32],
 }
 
+// The table that the cipher's rounds look up.
+pub fn table() -> [u8; 2048]
+    ensures { λ r. ⌜ IsTable r ⌝ }
+{
+    cipher::round_table::table()
+}
+
 // The context of a key.
-pub fn context_of(t: &[u8; 2048], key: [u8; 16]) -> Context
-    requires { ⌜ IsRoundTable (now t) ⌝ }
+pub fn context_of(table: &[u8; 2048], key: [u8; 16]) -> Context
+    requires { ⌜ IsTable (now table) ⌝ }
     ensures { λ r. ⌜ ContextOf key r ⌝ }
 {
-    let s = cipher::sbox::table();
-    let w = cipher::key::expand(&s, key);
-    let k = subkey::both(t, &w);
+    let sbox = cipher::sbox::table();
+    let schedule = cipher::key::expand(&sbox, key);
+    let subkeys = subkey::both(table, &schedule);
     Context {
-        schedule: w,
-        subkeys: k,
+        schedule: schedule,
+        subkeys: subkeys,
     }
 }
 
 // The tag of a message, as 16 bytes.
-pub fn tag<'a>(t: &[u8; 2048], w: &'a [u8; 176], k: &'a [u8; 32], m: &[u8]) -> [u8; 16]
-    requires { ⌜ IsRoundTable (now t) ⌝ }
-    ensures { λ r. ⌜ r ≡ tagUnder (now (w .entry)) (now (k .entry)) (now (m .entry)) ⌝ }
+pub fn tag<'a>(
+    table: &[u8; 2048],
+    schedule: &'a [u8; 176],
+    subkeys: &'a [u8; 32],
+    message: &[u8],
+) -> [u8; 16]
+    requires { ⌜ IsTable (now table) ⌝ }
+    ensures { λ r. ⌜ r ≡ tagUnder (now (schedule .entry)) (now (subkeys .entry)) (now (message .entry)) ⌝ }
 {
-    words::bytes_of(tag_block(t, w, k, m))
+    words::bytes_of(tag_block(table, schedule, subkeys, message))
 }
 
 // The tag of a message, as a block. One loop takes every block, the last one with its subkey, so that the cipher has one call and the
 // state stays in registers.
-pub fn tag_block<'a>(t: &[u8; 2048], w: &'a [u8; 176], k: &'a [u8; 32], m: &[u8]) -> Block
-    requires { ⌜ IsRoundTable (now t) ⌝ }
-    ensures { λ r. ⌜ blockOf r ≡ tagUnder (now (w .entry)) (now (k .entry)) (now (m .entry)) ⌝ }
+pub fn tag_block<'a>(
+    table: &[u8; 2048],
+    schedule: &'a [u8; 176],
+    subkeys: &'a [u8; 32],
+    message: &[u8],
+) -> Block
+    requires { ⌜ IsTable (now table) ⌝ }
+    ensures { λ r. ⌜ blockOf r ≡ tagUnder (now (schedule .entry)) (now (subkeys .entry)) (now (message .entry)) ⌝ }
 {
-    let n = message::before_last(m);
-    let last = message::last(k, m, n);
+    let count = message::before_last(message);
+    let last = message::last(subkeys, message, count);
     let mut x = Block { head: 0, tail: 0 };
     let mut i: usize = 0;
-    while i <= n {
-        let y = words::xored(x, message::input(m, last, n, i));
+    while i <= count {
+        let y = words::xored(x, message::input(message, last, count, i));
         i += 1;
-        x = cipher::encrypt(t, w, y);
+        x = cipher::encrypt(table, schedule, y);
     }
     x
 }

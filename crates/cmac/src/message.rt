@@ -12,75 +12,81 @@ ghost use Rattle.cmac.specs.Cmac.{blocks, messageBlock, padding, lastBlo
 ghost use Rattle.cmac.specs.Padded.{paddedByte};
 
 // How many blocks come before the last one.
-pub fn before_last(m: &[u8]) -> usize
-    ensures { λ r. ⌜ r ≡ blocks (length (now (m .entry))) - 1 ⌝ }
+pub fn before_last(message: &[u8]) -> usize
+    ensures { λ r. ⌜ r ≡ blocks (length (now (message .entry))) - 1 ⌝ }
 {
-    let n = m.len();
+    let n = message.len();
     if n == 0 { 0 } else { (n - 1) / 16 }
 }
 
-// What the cipher is to take at turn i: block i, or the last one.
-pub fn input(m: &[u8], last: Block, n: usize, i: usize) -> Block
-    requires { ⌜ (i ≤ n) × (16 * n ≤ length (now m)) ⌝ }
-    ensures { λ r. ⌜ blockOf r ≡ cond (ltb i n) (messageBlock (now (m .entry)) i) (blockOf last) ⌝ }
+// What the cipher is to take at a turn: the block of that index, or the last one.
+pub fn input(message: &[u8], last: Block, count: usize, index: usize) -> Block
+    requires { ⌜ (index ≤ count) × (16 * count ≤ length (now message)) ⌝ }
+    ensures { λ r. ⌜ blockOf r ≡ cond (ltb index count) (messageBlock (now (message .entry)) index) (blockOf last) ⌝ }
 {
-    if i < n {
-        return words::block_at(m, 16 * i);
+    if index < count {
+        return words::block_at(message, 16 * index);
     }
     last
 }
 
-// The last block, the one after n others, joined with its subkey.
-pub fn last(k: &[u8; 32], m: &[u8], n: usize) -> Block
-    requires { ⌜ n ≡ blocks (length (now m)) - 1 ⌝ }
-    ensures { λ r. ⌜ blockOf r ≡ lastBlock (part (now (k .entry)) 0 16) (part (now (k .entry)) 16 16) (now (m .entry)) ⌝ }
+// The last block, which comes after `count` others, joined with its subkey.
+pub fn last(subkeys: &[u8; 32], message: &[u8], count: usize) -> Block
+    requires { ⌜ count ≡ blocks (length (now message)) - 1 ⌝ }
+    ensures { λ r. ⌜ blockOf r
+        ≡ lastBlock (part (now (subkeys .entry)) 0 16) (part (now (subkeys .entry)) 16 16) (now (message .entry)) ⌝ }
 {
-    let o = 16 * n;
-    if o + 16 == m.len() {
-        return words::xored(words::block_at(m, o), words::block_at(k, 0));
+    let start = 16 * count;
+    if start + 16 == message.len() {
+        return words::xored(words::block_at(message, start), words::block_at(subkeys, 0));
     }
-    words::xored(padded_block(m, o), words::block_at(k, 16))
+    words::xored(padded_block(message, start), words::block_at(subkeys, 16))
 }
 
-// The short block of m from o, padded.
-fn padded_block(m: &[u8], o: usize) -> Block
-    requires { ⌜ (o ≤ length (now m)) × (length (now m) < o + 16) ⌝ }
-    ensures { λ r. ⌜ blockOf r ≡ padding (part (now (m .entry)) o 16) ⌝ }
+// The short block of a message, padded.
+fn padded_block(message: &[u8], start: usize) -> Block
+    requires { ⌜ (start ≤ length (now message)) × (length (now message) < start + 16) ⌝ }
+    ensures { λ r. ⌜ blockOf r ≡ padding (part (now (message .entry)) start 16) ⌝ }
 {
     Block {
-        head: words::double_word(padded_word(m, o), padded_word(m, o + 4)),
-        tail: words::double_word(padded_word(m, o + 8), padded_word(m, o + 12)),
+        head: words::double_word(padded_word(message, start), padded_word(message, start + 4)),
+        tail: words::double_word(
+            padded_word(message, start + 8),
+            padded_word(message, start + 12),
+        ),
     }
 }
 
-// Four bytes of m from o, with its padding.
-fn padded_word(m: &[u8], o: usize) -> u32
-    requires { ⌜ o < 9223372036854775824 ⌝ }
-    ensures { λ r. ⌜ bytes 4 r ≡ paddedByte (now (m .entry)) o ∷ paddedByte (now (m .entry)) (o + 1) ∷ paddedByte (now (m .entry)) (o + 2) ∷ paddedByte (now (m .entry)) (o + 3) ∷ [] ⌝ }
+// Four bytes of a message, with its padding.
+fn padded_word(message: &[u8], start: usize) -> u32
+    requires { ⌜ start < 9223372036854775824 ⌝ }
+    ensures { λ r. ⌜ bytes 4 r
+        ≡ paddedByte (now (message .entry)) start ∷ paddedByte (now (message .entry)) (start + 1)
+        ∷ paddedByte (now (message .entry)) (start + 2) ∷ paddedByte (now (message .entry)) (start + 3) ∷ [] ⌝ }
 {
-    let n = m.len();
-    if n < o {
+    let n = message.len();
+    if n < start {
         return 0;
     }
-    if 4 <= n - o {
-        return words::word_at(m, o);
+    if 4 <= n - start {
+        return words::word_at(message, start);
     }
     words::word_of(
-        padded_byte(m, o),
-        padded_byte(m, o + 1),
-        padded_byte(m, o + 2),
-        padded_byte(m, o + 3),
+        padded_byte(message, start),
+        padded_byte(message, start + 1),
+        padded_byte(message, start + 2),
+        padded_byte(message, start + 3),
     )
 }
 
-// Byte i of m, with its padding.
-fn padded_byte(m: &[u8], i: usize) -> u8
-    ensures { λ r. ⌜ r ≡ paddedByte (now (m .entry)) i ⌝ }
+// A byte of a message, with its padding.
+fn padded_byte(message: &[u8], index: usize) -> u8
+    ensures { λ r. ⌜ r ≡ paddedByte (now (message .entry)) index ⌝ }
 {
-    if i < m.len() {
-        return m[i];
+    if index < message.len() {
+        return message[index];
     }
-    if i == m.len() {
+    if index == message.len() {
         return 128;
     }
     0

@@ -6,19 +6,19 @@ ghost use mathlib.Core.Bool.{cond};
 ghost use Prim.Native.Nat.{_<_};
 ghost use lib.Dec.{ltb};
 ghost use Rattle.cipher.specs.Cipher.{cipherOf};
-ghost use Rattle.cipher.specs.Tables.{IsRoundTable};
 ghost use Rattle.words.specs.Words.{bytes, blockOf};
 ghost use Rattle.cmac.specs.Cmac.{double, subkey1, subkey2};
+ghost use Rattle.cmac.specs.Context.{IsTable};
 ghost use Rattle.cmac.specs.Shifted.{shiftedUp};
 
 // Both subkeys, one after the other. While they are not known zeros stand for them: the tag of the zero block is then its cipher.
-pub fn both(t: &[u8; 2048], w: &[u8; 176]) -> [u8; 32]
-    requires { ⌜ IsRoundTable (now t) ⌝ }
-    ensures { λ r. ⌜ r ≡ subkey1 (cipherOf (now (w .entry))) ++ subkey2 (cipherOf (now (w .entry))) ⌝ }
+pub fn both(table: &[u8; 2048], schedule: &[u8; 176]) -> [u8; 32]
+    requires { ⌜ IsTable (now table) ⌝ }
+    ensures { λ r. ⌜ r ≡ subkey1 (cipherOf (now (schedule .entry))) ++ subkey2 (cipherOf (now (schedule .entry))) ⌝ }
 {
     let none = [0u8; 32];
     let zero = [0u8; 16];
-    let k1 = doubled(crate::tag_block(t, w, &none, &zero));
+    let k1 = doubled(crate::tag_block(table, schedule, &none, &zero));
     let mut k = [0u8; 32];
     words::put_block(&mut k, 0, k1);
     words::put_block(&mut k, 16, doubled(k1));
@@ -26,11 +26,11 @@ pub fn both(t: &[u8; 2048], w: &[u8; 176]) -> [u8; 32]
 }
 
 // A block doubled: its halves as numbers whose highest byte is the first one, shifted left.
-fn doubled(b: Block) -> Block
-    ensures { λ r. ⌜ blockOf r ≡ double (blockOf b) ⌝ }
+fn doubled(block: Block) -> Block
+    ensures { λ r. ⌜ blockOf r ≡ double (blockOf block) ⌝ }
 {
-    let head = words::reversed_double_word(b.head);
-    let tail = words::reversed_double_word(b.tail);
+    let head = words::reversed_double_word(block.head);
+    let tail = words::reversed_double_word(block.tail);
     Block {
         head: words::reversed_double_word(shifted(head, tail / 9223372036854775808)),
         tail: words::reversed_double_word(shifted(tail, 0) ^ carry(head)),
@@ -38,16 +38,16 @@ fn doubled(b: Block) -> Block
 }
 
 // A number shifted left by one bit, with the bit that comes in.
-fn shifted(w: u64, bit: u64) -> u64
+fn shifted(word: u64, bit: u64) -> u64
     requires { ⌜ bit < 2 ⌝ }
-    ensures { λ r. ⌜ bytes 8 r ≡ shiftedUp bit (bytes 8 w) ⌝ }
+    ensures { λ r. ⌜ bytes 8 r ≡ shiftedUp bit (bytes 8 word) ⌝ }
 {
-    w % 9223372036854775808 * 2 + bit
+    word % 9223372036854775808 * 2 + bit
 }
 
 // What the bit that leaves a number adds to the last byte.
-fn carry(w: u64) -> u64
-    ensures { λ r. ⌜ r ≡ cond (ltb w 0x8000000000000000) 0 0x87 ⌝ }
+fn carry(word: u64) -> u64
+    ensures { λ r. ⌜ r ≡ cond (ltb word 0x8000000000000000) 0 0x87 ⌝ }
 {
-    if w < 9223372036854775808 { 0 } else { 0x87 }
+    if word < 9223372036854775808 { 0 } else { 0x87 }
 }

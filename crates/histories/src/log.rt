@@ -1,21 +1,21 @@
 // The log.
-use crate::sum;
-use crate::turn::Left;
 use libc::STDOUT_FILENO;
+use steps::sum;
+use steps::turn::Left;
 
 // The line above a history.
-pub fn depth(n: u64) {
+pub fn depth(depth: u64) {
     io::write_all(STDOUT_FILENO, b"depth ");
-    io::print_decimal(STDOUT_FILENO, n);
+    io::print_decimal(STDOUT_FILENO, depth);
     end();
 }
 
 // The line of a step: its number and kind, the answer's number and node, the root nonce, and the sums of the card, the buffer and the
 // range buffer.
-pub fn step(s: u64, kind: u64, left: Left, card: &[u8]) {
+pub fn step(number: u64, kind: u64, left: Left, card: &[u8]) {
     let answer = left.answer;
     let root = left.anchor.root;
-    io::print_decimal(STDOUT_FILENO, s);
+    io::print_decimal(STDOUT_FILENO, number);
     then(kind);
     then(tree::number(answer));
     then(tree::node_of(answer));
@@ -27,9 +27,9 @@ pub fn step(s: u64, kind: u64, left: Left, card: &[u8]) {
 }
 
 // One more number of a line.
-fn then(n: u64) {
+fn then(number: u64) {
     io::write_all(STDOUT_FILENO, b" ");
-    io::print_decimal(STDOUT_FILENO, n);
+    io::print_decimal(STDOUT_FILENO, number);
 }
 
 // The end of a line.

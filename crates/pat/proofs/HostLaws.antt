@@ -14,7 +14,7 @@ use Rattle.tree.specs.Calls.{Call, lentTo, isWrite, Outcome, Gives, outcome, fo
 use Rattle.tree.specs.declared.Anchor.{Anchor}
 use Rattle.tree.specs.declared.Answer.{Answer}
 use Rattle.tree.specs.declared.Answer.the-variants.{Whole}
-use Rattle.pat.specs.Host.{number, anchorOf, codeOf, Host, hosted, measured, hostCall, hostFormat, Hosts}
+use Rattle.pat.specs.Host.{anchorBytes, refusedLength, number, anchorOf, codeOf, Host, hosted, measured, hostCall, hostFormat, Hosts}
 
 -- Numbers
 
@@ -36,12 +36,12 @@ number-be (suc k) x h =
 
 -- Lengths
 
-pub measured-in : (anchor card lent : List ℕ) (h : Host) → length anchor ≡ 32 → measured anchor card lent h ≡ h
-measured-in anchor card lent h e = rw (eq-eqb (length anchor) 32 e)
+pub measured-in : (anchor card lent : List ℕ) (h : Host) → length anchor ≡ anchorBytes → measured anchor card lent h ≡ h
+measured-in anchor card lent h e = rw (eq-eqb (length anchor) anchorBytes e)
 
-pub measured-out : (anchor card lent : List ℕ) (h : Host) → (length anchor ≡ 32 → ⊥) → Hosts (measured anchor card lent h) 5 anchor card lent
+pub measured-out : (anchor card lent : List ℕ) (h : Host) → (length anchor ≡ anchorBytes → ⊥) → Hosts (measured anchor card lent h) refusedLength anchor card lent
 measured-out anchor card lent h d =
-    rw (ne-eqb (length anchor) 32 d) (record { coded = refl; anchored = refl; left = refl; filled = refl })
+    rw (ne-eqb (length anchor) anchorBytes d) (record { coded = refl; anchored = refl; left = refl; filled = refl })
 
 -- Answers
 
@@ -70,7 +70,7 @@ module _ (anchor : List ℕ) (o : Outcome) (x : Answer) (b : Anchor) (card lent 
 
 -- Calls
 
-module _ (anchor card : List ℕ) (a : Anchor) (is : a ≡ anchorOf anchor) (long : length anchor ≡ 32) where
+module _ (anchor card : List ℕ) (a : Anchor) (is : a ≡ anchorOf anchor) (long : length anchor ≡ anchorBytes) where
   pub host-call : (c : Call) → hostCall anchor card c ≡ hosted (isWrite c) anchor (outcome (cmacOf (a .key)) a card c)
   unfolding hostCall
   host-call c =

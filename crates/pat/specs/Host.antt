@@ -1,4 +1,4 @@
--- The calls for C: the anchor as 32 bytes, the answer as one number.
+-- The calls for C: the anchor as bytes, the answer as one number.
 use Prim.Native.Nat.{ℕ, _+_, _*_, _^_}
 use mathlib.Core.Path.{_≡_}
 use mathlib.Core.Bool.{Bool, true, cond, _&&_}
@@ -17,6 +17,10 @@ use Rattle.tree.specs.declared.Answer.{Answer}
 unfoldable pub number : List ℕ → ℕ
 number [] = 0
 number (x ∷ xs) = x * 256 ^ length xs + number xs
+
+-- how long an anchor is: the key in 16 bytes, then depth and root nonce in 8 each
+abbrev pub anchorBytes : ℕ
+anchorBytes = 32
 
 -- key, depth and root nonce
 unfoldable pub anchorOf : List ℕ → Anchor
@@ -43,9 +47,14 @@ hosted moves anchor o =
       lent = o .lent;
     }
 
--- an anchor of another length than 32 is refused 5, before the rest
+-- what a function answers to an anchor of another length
+abbrev pub refusedLength : ℕ
+refusedLength = 5
+
+-- before the rest
 abbrev pub measured : List ℕ → List ℕ → List ℕ → Host → Host
-measured anchor card lent h = cond (eqb (length anchor) 32) h (record { code = 5; anchor = anchor; card = card; lent = lent })
+measured anchor card lent h =
+    cond (eqb (length anchor) anchorBytes) h (record { code = refusedLength; anchor = anchor; card = card; lent = lent })
 
 -- a call after format
 unfoldable pub hostCall : List ℕ → List ℕ → Call → Host

@@ -6,9 +6,9 @@ ghost use Rattle.tree.specs.Answer.{nodeOf};
 ghost use Rattle.pat.specs.Host.{codeOf};
 
 // The number, plus 256 times the node.
-pub(crate) fn of(a: Answer) -> u64
-    requires { ⌜ nodeOf a < 131072 ⌝ }
-    ensures { λ r. ⌜ r ≡ codeOf a ⌝ }
+pub(crate) fn of(answer: Answer) -> u64
+    requires { ⌜ nodeOf answer < 131072 ⌝ }
+    ensures { λ r. ⌜ r ≡ codeOf answer ⌝ }
 {
-    tree::number(a) + 256 * tree::node_of(a)
+    tree::number(answer) + 256 * tree::node_of(answer)
 }

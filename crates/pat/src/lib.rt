@@ -1,8 +1,9 @@
-// The four calls for C, as a static library. A slice passes as a pointer and a length. The anchor is 32 bytes: key, depth and root nonce,
-// the numbers in eight bytes each, big-endian. The answer is the refusal's number plus 256 times the node, 0 when accepted.
+// The calls for C, as a static library: format, read, write, check, and the write on an anchor in its place. A slice passes as a pointer
+// and a length. The anchor is 32 bytes: key, depth and root nonce, the numbers in eight bytes each, big-endian; the write in place has it
+// as a struct. The answer is the refusal's number plus 256 times the node, 0 when accepted.
 mod anchor;
-mod boot;
 mod code;
+mod in_place;
 
 use tree::Anchor;
 use tree::Answer;
@@ -12,17 +13,22 @@ ghost use Rattle.cmac.specs.Cmac.{cmacOf};
 ghost use Rattle.tree.specs.Calls.{read, write, check, outcome};
 ghost use Rattle.pat.specs.Host.{Hosts, hostCall, hostFormat, Codes};
 
+// How long an anchor is, and what a call answers to one of another length.
+const ANCHOR_BYTES: usize = 32;
+
+const REFUSED_LENGTH: u64 = 5;
+
 // Formats the card, and sets the anchor's root nonce to 0.
 #[no_mangle]
 pub extern "C" fn pat_format(anchor: &mut [u8], card: &mut [u8]) -> u64
     ensures { λ r. ⌜ Hosts (hostFormat (now (anchor .entry)) (now (card .entry))) r (now (anchor .exit)) (now (card .exit)) [] ⌝ }
 {
-    if anchor.len() != 32 {
-        return 5;
+    if anchor.len() != ANCHOR_BYTES {
+        return REFUSED_LENGTH;
     }
-    let a = anchor::of(anchor);
-    let key = a.key;
-    let reply = tree::format(key, a.depth, card);
+    let given = anchor::of(anchor);
+    let key = given.key;
+    let reply = calls::format(key, given.depth, card);
     let answer = reply.answer;
     let Answer::Whole = answer else {
         return code::of(answer);
@@ -35,13 +41,14 @@ pub extern "C" fn pat_format(anchor: &mut [u8], card: &mut [u8]) -> u64
 // Reads a block into the buffer.
 #[no_mangle]
 pub extern "C" fn pat_read(anchor: &[u8], card: &[u8], index: u64, buffer: &mut [u8]) -> u64
-    ensures { λ r. ⌜ Hosts (hostCall (now (anchor .entry)) (now (card .entry)) (read index (now (buffer .entry)))) r (now (anchor .entry)) (now (card .entry)) (now (buffer .exit)) ⌝ }
+    ensures { λ r. ⌜ Hosts (hostCall (now (anchor .entry)) (now (card .entry)) (read index (now (buffer .entry))))
+        r (now (anchor .entry)) (now (card .entry)) (now (buffer .exit)) ⌝ }
 {
-    if anchor.len() != 32 {
-        return 5;
+    if anchor.len() != ANCHOR_BYTES {
+        return REFUSED_LENGTH;
     }
-    let a = anchor::of(anchor);
-    code::of(tree::read(a, card, BlockIndex(index), buffer))
+    let given = anchor::of(anchor);
+    code::of(calls::read(given, card, BlockIndex(index), buffer))
 }
 
 // Writes a block, and puts the new root nonce into the anchor.
@@ -53,13 +60,15 @@ pub extern "C" fn pat_write(
     block: &[u8],
     ranges: &mut [u8],
 ) -> u64
-    ensures { λ r. ⌜ Hosts (hostCall (now (anchor .entry)) (now (card .entry)) (write index (now (block .entry)) (now (ranges .entry)))) r (now (anchor .exit)) (now (card .exit)) (now (ranges .exit)) ⌝ }
+    ensures { λ r. ⌜ Hosts
+        (hostCall (now (anchor .entry)) (now (card .entry)) (write index (now (block .entry)) (now (ranges .entry))))
+        r (now (anchor .exit)) (now (card .exit)) (now (ranges .exit)) ⌝ }
 {
-    if anchor.len() != 32 {
-        return 5;
+    if anchor.len() != ANCHOR_BYTES {
+        return REFUSED_LENGTH;
     }
-    let a = anchor::of(anchor);
-    let reply = tree::write(a, card, BlockIndex(index), block, ranges);
+    let given = anchor::of(anchor);
+    let reply = calls::write(given, card, BlockIndex(index), block, ranges);
     let answer = reply.answer;
     let Answer::Whole = answer else {
         return code::of(answer);
@@ -74,11 +83,11 @@ pub extern "C" fn pat_write(
 pub extern "C" fn pat_check(anchor: &[u8], card: &[u8]) -> u64
     ensures { λ r. ⌜ Hosts (hostCall (now (anchor .entry)) (now (card .entry)) check) r (now (anchor .entry)) (now (card .entry)) [] ⌝ }
 {
-    if anchor.len() != 32 {
-        return 5;
+    if anchor.len() != ANCHOR_BYTES {
+        return REFUSED_LENGTH;
     }
-    let a = anchor::of(anchor);
-    code::of(tree::check(a, card))
+    let given = anchor::of(anchor);
+    code::of(calls::check(given, card))
 }
 
 // The write for boot code, which has the anchor as a struct in memory of its own: accepted, it moves the anchor in its place.
@@ -90,9 +99,12 @@ pub extern "C" fn pat_write_in_place(
     block: &[u8],
     ranges: &mut [u8],
 ) -> u64
-    ensures { λ r. ⌜ Codes (outcome (cmacOf (now (anchor .entry) .key)) (now (anchor .entry)) (now (card .entry)) (write index (now (block .entry)) (now (ranges .entry)))) r (now (anchor .exit)) (now (card .exit)) (now (ranges .exit)) ⌝ }
+    ensures { λ r. ⌜ Codes
+        (outcome (cmacOf (now (anchor .entry) .key)) (now (anchor .entry)) (now (card .entry))
+        (write index (now (block .entry)) (now (ranges .entry))))
+        r (now (anchor .exit)) (now (card .exit)) (now (ranges .exit)) ⌝ }
 {
-    let reply = boot::write(*anchor, card, index, block, ranges);
+    let reply = in_place::write(*anchor, card, index, block, ranges);
     *anchor = reply.anchor;
     reply.code
 }

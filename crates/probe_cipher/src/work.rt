@@ -9,9 +9,9 @@ pub fn expand(key: &[u8], out: &mut [u8])
     requires { ⌜ (length (now key) ≡ 16) × (length (now out) ≡ 176) ⌝ }
     ensures { λ _. ⌜ now (out .exit) ≡ keyExpansion (now (key .entry)) ⌝ }
 {
-    let s = cipher::sbox::table();
-    let w = cipher::key::expand(&s, probe::key_of(key));
-    bytes::copy(&w, out);
+    let sbox = cipher::sbox::table();
+    let schedule = cipher::key::expand(&sbox, probe::key_of(key));
+    bytes::copy(&schedule, out);
 }
 
 pub fn encrypt(key: &[u8], block: &[u8], out: &mut [u8])
@@ -26,14 +26,14 @@ pub fn encrypt_chain(key: &[u8], block: &mut [u8], count: u64)
     requires { ⌜ (length (now key) ≡ 16) × (length (now block) ≡ 16) ⌝ }
     ensures { λ _. ⌜ now (block .exit) ≡ repeated (encryptOf (now (key .entry))) (now (block .entry)) count ⌝ }
 {
-    let s = cipher::sbox::table();
-    let w = cipher::key::expand(&s, probe::key_of(key));
-    let t = cipher::round_table::table();
+    let sbox = cipher::sbox::table();
+    let schedule = cipher::key::expand(&sbox, probe::key_of(key));
+    let table = cipher::round_table::table();
     let mut x = words::block_at(block, 0);
     let mut i: u64 = 0;
     while i < count {
         i += 1;
-        x = cipher::encrypt(&t, &w, x);
+        x = cipher::encrypt(&table, &schedule, x);
     }
     words::put_block(block, 0, x);
 }

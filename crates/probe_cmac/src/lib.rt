@@ -12,7 +12,8 @@ ghost use Rattle.probe.specs.Told.{Told, sized, repeated, retagged};
 // Both subkeys.
 #[no_mangle]
 pub extern "C" fn probe_subkeys(key: &[u8], out: &mut [u8]) -> u64
-    ensures { λ r. ⌜ Told (sized (now (key .entry)) 16 && sized (now (out .entry)) 32) (subkeysOf (now (key .entry))) (now (out .entry)) (now (out .exit)) r ⌝ }
+    ensures { λ r. ⌜ Told (sized (now (key .entry)) 16 && sized (now (out .entry)) 32)
+        (subkeysOf (now (key .entry))) (now (out .entry)) (now (out .exit)) r ⌝ }
 {
     if key.len() != 16 {
         return 1;
@@ -27,7 +28,8 @@ pub extern "C" fn probe_subkeys(key: &[u8], out: &mut [u8]) -> u64
 // The tag of a message.
 #[no_mangle]
 pub extern "C" fn probe_tag(key: &[u8], message: &[u8], out: &mut [u8]) -> u64
-    ensures { λ r. ⌜ Told (sized (now (key .entry)) 16 && sized (now (out .entry)) 16) (cmacOf (now (key .entry)) (now (message .entry))) (now (out .entry)) (now (out .exit)) r ⌝ }
+    ensures { λ r. ⌜ Told (sized (now (key .entry)) 16 && sized (now (out .entry)) 16)
+        (cmacOf (now (key .entry)) (now (message .entry))) (now (out .entry)) (now (out .exit)) r ⌝ }
 {
     if key.len() != 16 {
         return 1;
@@ -42,7 +44,8 @@ pub extern "C" fn probe_tag(key: &[u8], message: &[u8], out: &mut [u8]) -> u64
 // Count times, the tag of a message in the place of its first 16 bytes.
 #[no_mangle]
 pub extern "C" fn probe_tag_chain(key: &[u8], message: &mut [u8], count: u64) -> u64
-    ensures { λ r. ⌜ Told (sized (now (key .entry)) 16 && leb 16 (length (now (message .entry)))) (repeated (retagged (now (key .entry))) (now (message .entry)) count) (now (message .entry)) (now (message .exit)) r ⌝ }
+    ensures { λ r. ⌜ Told (sized (now (key .entry)) 16 && leb 16 (length (now (message .entry))))
+        (repeated (retagged (now (key .entry))) (now (message .entry)) count) (now (message .entry)) (now (message .exit)) r ⌝ }
 {
     if key.len() != 16 {
         return 1;

@@ -10,19 +10,19 @@ pub fn subkeys(key: &[u8], out: &mut [u8])
     requires { ⌜ (length (now key) ≡ 16) × (length (now out) ≡ 32) ⌝ }
     ensures { λ _. ⌜ now (out .exit) ≡ subkeysOf (now (key .entry)) ⌝ }
 {
-    let t = cipher::round_table::table();
-    let c = cmac::context_of(&t, probe::key_of(key));
-    let k = c.subkeys;
-    bytes::copy(&k, out);
+    let table = cmac::table();
+    let context = cmac::context_of(&table, probe::key_of(key));
+    let subkeys = context.subkeys;
+    bytes::copy(&subkeys, out);
 }
 
 pub fn tag(key: &[u8], message: &[u8], out: &mut [u8])
     requires { ⌜ (length (now key) ≡ 16) × (length (now out) ≡ 16) ⌝ }
     ensures { λ _. ⌜ now (out .exit) ≡ cmacOf (now (key .entry)) (now (message .entry)) ⌝ }
 {
-    let t = cipher::round_table::table();
-    let c = cmac::context_of(&t, probe::key_of(key));
-    let x = cmac::tag(&t, &c.schedule, &c.subkeys, message);
+    let table = cmac::table();
+    let context = cmac::context_of(&table, probe::key_of(key));
+    let x = cmac::tag(&table, &context.schedule, &context.subkeys, message);
     bytes::copy(&x, out);
 }
 
@@ -30,12 +30,12 @@ pub fn tag_chain(key: &[u8], message: &mut [u8], count: u64)
     requires { ⌜ (length (now key) ≡ 16) × (16 ≤ length (now message)) ⌝ }
     ensures { λ _. ⌜ now (message .exit) ≡ repeated (retagged (now (key .entry))) (now (message .entry)) count ⌝ }
 {
-    let t = cipher::round_table::table();
-    let c = cmac::context_of(&t, probe::key_of(key));
+    let table = cmac::table();
+    let context = cmac::context_of(&table, probe::key_of(key));
     let mut i: u64 = 0;
     while i < count {
         i += 1;
-        let x = cmac::tag_block(&t, &c.schedule, &c.subkeys, message);
+        let x = cmac::tag_block(&table, &context.schedule, &context.subkeys, message);
         words::put_block(message, 0, x);
     }
 }

@@ -13,8 +13,8 @@ use Rattle.tree.specs.Labels.{message, labels}
 use Rattle.tree.specs.Calls.{Call, read, write, check, checks, Outcome, answerOf, done, outcome}
 use Rattle.tree.specs.declared.Answer.{Answer}
 use Rattle.tree.specs.declared.Answer.the-variants.{Whole, Wrong, Refused}
-use Rattle.tree.proofs.CallLaws
-use Rattle.tree.proofs.CallLaws.{Passes, read-checks, write-checks, check-checks, accepted, outcome-answer, outcome-done}
+use Rattle.tree.proofs.LimitLaws.{Passes}
+use Rattle.tree.proofs.CallLaws.{read-checks, write-checks, check-checks, accepted, outcome-answer, outcome-done}
 use Rattle.replay.specs.Run.{Step, State, next, after}
 use Rattle.replay.specs.Claim.{Place, Agrees, Agreement, Forgery}
 use Rattle.replay.proofs.Safe.{Backs, read-same, check-same, write-backs}

@@ -9,10 +9,10 @@ use Rattle.tree.specs.Calls.{read, write, check, Gives, outcome, format}
 use Rattle.tree.specs.declared.Anchor.{Anchor}
 use Rattle.tree.specs.declared.Answer.the-variants.{Whole}
 use Rattle.tree.proofs.CallLaws.{outcome-key, format-in}
-use Rattle.tree.proofs.format.Reads as format-code
-use Rattle.tree.proofs.read.Reads as read-code
-use Rattle.tree.proofs.write.Reads as write-code
-use Rattle.tree.proofs.check.Reads as check-code
+use Rattle.calls.proofs.format.Reads as format-code
+use Rattle.calls.proofs.read.Reads as read-code
+use Rattle.calls.proofs.write.Reads as write-code
+use Rattle.calls.proofs.check.Reads as check-code
 use Rattle.replay.specs.Run.{State, start, next, after}
 use Rattle.replay.specs.Ran.{Ran, Meets, Formatted, History, Demand3Of}
 use Rattle.replay.proofs.Theorem.{demand3}

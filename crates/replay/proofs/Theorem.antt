@@ -12,7 +12,8 @@ use Rattle.tree.specs.Labels.{message, labels}
 use Rattle.tree.specs.Card.{blanked}
 use Rattle.tree.specs.Calls.{formatAnswer, formatCard, format}
 use Rattle.tree.specs.declared.Answer.{Answer}
-use Rattle.tree.proofs.CallLaws.{Passes, format-accept}
+use Rattle.tree.proofs.LimitLaws.{Passes}
+use Rattle.tree.proofs.CallLaws.{format-accept}
 use Rattle.replay.specs.Array.{zeroed}
 use Rattle.replay.specs.Run.{Step, start, after, writes}
 use Rattle.replay.specs.Claim.{Place, known, Accepted, Untouched, Demand3}

@@ -13,7 +13,8 @@ use Rattle.tree.specs.declared.Node.{Node}
 use Rattle.tree.specs.declared.Answer.the-variants.{Whole, Wrong}
 use Rattle.tree.proofs.NodeLaws.{Off, Child, child-or-off}
 use Rattle.tree.proofs.WriteLaws.{Right, blanked-length, blanked-right, written-length, stamped-right, right-stays}
-use Rattle.tree.proofs.CallLaws.{Passes, checks-nodes, accepted, accept, never-wrong, outcome-answer}
+use Rattle.tree.proofs.LimitLaws.{Passes}
+use Rattle.tree.proofs.CallLaws.{checks-nodes, accepted, accept, never-wrong, outcome-answer}
 use Rattle.replay.specs.Run.{Step, State, next, after}
 use Rattle.replay.specs.Claim
 use Rattle.replay.specs.Claim.{Place, known, Untouched, Quiet}

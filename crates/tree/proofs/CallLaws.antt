@@ -1,19 +1,17 @@
 -- What an answer says: which limits were passed, which tags are right, and what the call left.
 use mathlib.Core.Path.{_≡_, refl, sym, ap, subst, _∙_}
-use mathlib.Core.Bool.{Bool, true, false, not, cond, _||_}
+use mathlib.Core.Bool.{Bool, true, false, cond}
 use mathlib.Core.List.{List, [], _∷_, List·Memᴰ, List·Memᴰ·head, List·Memᴰ·tail, List·Memᴰ·cases-cons, List·Memᴰ·not-nil}
 use mathlib.Core.Logic.{_⊎_, inl, inr, ⊎-elim}
 use mathlib.Core.Option.{Option, none, some}
-use Prim.Native.Nat.{ℕ, _+_, _*_, _%_, _^_, _<_, _≤_}
+use Prim.Native.Nat.{ℕ, _+_, _^_, _<_, _≤_}
 use native.Mathlib.Omega.{arith}
-use borrow.Author.Tests.{ltb-false, leb-false, eqb-true, eqb-false, not-false, eq-eqb, ne-eqb, le-ltb, lt-leb}
-use lib.Dec.{eqb, ltb}
 use lib.ListN.{length}
 use Rattle.tree.specs.Layout.{IsNode, IsCard, cardLength, tag}
 use Rattle.tree.specs.Nodes.{pathNode, pairs, pairsButLeaf}
 use Rattle.tree.specs.Labels.{message, labels}
 use Rattle.tree.specs.Card.{right, firstWrong}
-use Rattle.tree.specs.Limits.{Limit, depthLimit, nonceLimit, cardLimit, firstFailing}
+use Rattle.tree.specs.Limits.{depthLimit, cardLimit, firstFailing}
 use Rattle.tree.specs.Calls.{Call, read, write, check, limits, checks, verdict, formatAnswer, answerOf, done, settled, outcome}
 use Rattle.tree.specs.declared.Node.{Node}
 use Rattle.tree.specs.declared.Anchor.{Anchor}
@@ -21,147 +19,11 @@ use Rattle.tree.specs.declared.Refusal.{Refusal}
 use Rattle.tree.specs.declared.Answer.{Answer}
 use Rattle.tree.specs.declared.Answer.the-variants.{Whole, Wrong, Refused}
 use Rattle.words.specs.Bytes.{same}
-use Rattle.words.proofs.Cases.{below-or-not}
 use Rattle.words.proofs.Same.{same-is, same-refl}
 use Rattle.tree.proofs.LayoutLaws.{AllNodes}
 use Rattle.tree.proofs.NodeLaws.{pair-checked, checked-pair, pair-node, path-among, path-is-node, node-among, among-node}
-use Rattle.tree.proofs.WriteLaws.{Right}
-
--- Limits
-
--- the first limit and the rest are passed
-passes : (l : Limit) (ls : List Limit) → firstFailing (l ∷ ls) ≡ none → (l .fails ≡ false) × (firstFailing ls ≡ none)
-unfolding firstFailing
-passes l ls e = go (l .fails) e
-  where
-    go : (b : Bool) → cond b (some (l .refusal)) (firstFailing ls) ≡ none → (b ≡ false) × (firstFailing ls ≡ none)
-    go true e = let z : _≡_ {A = ℕ} 0 1 = cc in absurd (omega arith)
-    go false e = (refl, e)
-
-pass : (l : Limit) (ls : List Limit) → l .fails ≡ false → firstFailing ls ≡ none → firstFailing (l ∷ ls) ≡ none
-unfolding firstFailing
-pass l ls f e = rw f e
-
-pub no-limits : firstFailing [] ≡ none
-unfolding firstFailing
-no-limits = refl
-
-not-or : (a b : Bool) → (a || b) ≡ false → (a ≡ false) × (b ≡ false)
-not-or true b e = let z : _≡_ {A = ℕ} 0 1 = cc in absurd (omega arith)
-not-or false b e = (refl, e)
-
-or-not : (a b : Bool) → a ≡ false → b ≡ false → (a || b) ≡ false
-or-not true b p q = p
-or-not false b p q = q
-
-pub is-equal : (m n : ℕ) → not (eqb m n) ≡ false → m ≡ n
-is-equal m n e = eqb-true m n (not-false (eqb m n) e)
-
-equal-is : (m n : ℕ) → m ≡ n → not (eqb m n) ≡ false
-equal-is m n e = ap not (eq-eqb m n e)
-
--- limits 1 to 3
-pub record Sound (n t : ℕ) (card : List ℕ) : Type 0 where
-  pub deep : 1 ≤ n
-  pub shallow : n ≤ 16
-  pub multiple : t % n ≡ 0
-  pub full : length card ≡ cardLength n
-
-pub sound-card : {n t : ℕ} {card : List ℕ} → Sound n t card → IsCard n card
-sound-card s = record { deep = s .deep; shallow = s .shallow; full = s .full }
-
--- and those of a call
-pub record Reads (n t : ℕ) (card : List ℕ) (i : ℕ) (buffer : List ℕ) : Type 0 where
-  pub sound : Sound n t card
-  pub inside : i < 2 ^ n
-  pub long : length buffer ≡ 64
-
-pub record Writes (n t : ℕ) (card : List ℕ) (i : ℕ) (block ranges : List ℕ) : Type 0 where
-  pub sound : Sound n t card
-  pub inside : i < 2 ^ n
-  pub long : length block ≡ 64
-  pub room : 16 * n ≤ length ranges
-  pub unspent : t + n < 2 ^ 64
-
-abbrev pub Passes : Anchor → List ℕ → Call → Type 0
-Passes a card (read i buffer) = Reads (a .depth) (a .root .0) card i buffer
-Passes a card (write i block ranges) = Writes (a .depth) (a .root .0) card i block ranges
-Passes a card check = Sound (a .depth) (a .root .0) card
-
-pub passes-sound : (a : Anchor) (card : List ℕ) (c : Call) → Passes a card c → Sound (a .depth) (a .root .0) card
-passes-sound a card (read i buffer) p = p .sound
-passes-sound a card (write i block ranges) p = p .sound
-passes-sound a card check p = p
-
-depth-passes : (n : ℕ) → 1 ≤ n → n ≤ 16 → depthLimit n .fails ≡ false
-depth-passes n deep shallow = or-not (eqb n 0) (ltb 16 n) (ne-eqb n 0 (λ (z : n ≡ 0). omega arith)) (le-ltb 16 n shallow)
-
-pub depth-in : (n : ℕ) → depthLimit n .fails ≡ false → (1 ≤ n) × (n ≤ 16)
-depth-in n e =
-    let d = not-or (eqb n 0) (ltb 16 n) e in (
-      ⊎-elim (λ (z : n < 1). absurd (eqb-false n 0 (d .0) (omega arith))) (λ (g : 1 ≤ n). g) (below-or-not n 1),
-      ltb-false 16 n (d .1),
-    )
-
-module _ (n t : ℕ) (card : List ℕ) where
-  abbrev first : List Limit → List Limit
-  first ls = depthLimit n ∷ nonceLimit n t ∷ cardLimit n (length card) ∷ ls
-
-  first-passed : (ls : List Limit) → firstFailing (first ls) ≡ none → Sound n t card × (firstFailing ls ≡ none)
-  first-passed ls e =
-      let p = passes _ _ e in
-      let q = passes _ _ (p .1) in
-      let r = passes _ _ (q .1) in
-      let d = depth-in n (p .0) in (
-        record {
-          deep = d .0;
-          shallow = d .1;
-          multiple = is-equal (t % n) 0 (q .0);
-          full = is-equal (length card) (cardLength n) (r .0);
-        },
-        r .1,
-      )
-
-  pass-first : (ls : List Limit) → Sound n t card → firstFailing ls ≡ none → firstFailing (first ls) ≡ none
-  pass-first ls s e =
-      pass _ _ (depth-passes n (s .deep) (s .shallow))
-      (pass _ _ (equal-is (t % n) 0 (s .multiple)) (pass _ _ (equal-is (length card) (cardLength n) (s .full)) e))
-
--- a call whose limits are all passed
-pub passed : (a : Anchor) (card : List ℕ) (c : Call) → firstFailing (limits a card c) ≡ none → Passes a card c
-unfolding limits
-passed a card (read i buffer) e =
-    let p = first-passed (a .depth) (a .root .0) card _ e in
-    let q = passes _ _ (p .1) in
-    let r = passes _ _ (q .1) in
-    record { sound = p .0; inside = leb-false (2 ^ a .depth) i (q .0); long = is-equal (length buffer) 64 (r .0) }
-passed a card (write i block ranges) e =
-    let p = first-passed (a .depth) (a .root .0) card _ e in
-    let q = passes _ _ (p .1) in
-    let r = passes _ _ (q .1) in
-    let s = passes _ _ (r .1) in
-    let u = passes _ _ (s .1) in
-    record {
-      sound = p .0;
-      inside = leb-false (2 ^ a .depth) i (q .0);
-      long = is-equal (length block) 64 (r .0);
-      room = ltb-false (length ranges) (16 * a .depth) (s .0);
-      unspent = leb-false (2 ^ 64) (a .root .0 + a .depth) (u .0);
-    }
-passed a card check e = first-passed (a .depth) (a .root .0) card _ e .0
-
-pub pass-all : (a : Anchor) (card : List ℕ) (c : Call) → Passes a card c → firstFailing (limits a card c) ≡ none
-unfolding limits
-pass-all a card (read i buffer) p =
-    pass-first (a .depth) (a .root .0) card _ (p .sound)
-    (pass _ _ (lt-leb (2 ^ a .depth) i (p .inside)) (pass _ _ (equal-is (length buffer) 64 (p .long)) no-limits))
-pass-all a card (write i block ranges) p =
-    pass-first (a .depth) (a .root .0) card _ (p .sound)
-    (pass _ _ (lt-leb (2 ^ a .depth) i (p .inside))
-    (pass _ _ (equal-is (length block) 64 (p .long))
-    (pass _ _ (le-ltb (length ranges) (16 * a .depth) (p .room))
-    (pass _ _ (lt-leb (2 ^ 64) (a .root .0 + a .depth) (p .unspent)) no-limits))))
-pass-all a card check p = pass-first (a .depth) (a .root .0) card _ p no-limits
+use Rattle.tree.proofs.WriteLaws.{Right, Clean}
+use Rattle.tree.proofs.LimitLaws.{no-limits, passes, pass, is-equal, equal-is, depth-passes, depth-in, Passes, passed, pass-all}
 
 -- Tags
 
@@ -257,6 +119,14 @@ module _ (F : List ℕ → List ℕ) (a : Anchor) (card : List ℕ) (c : Call) w
   never-wrong f u e =
       let v = verdict-wrong _ _ u e in
       v .1 (wrong-none F (a .depth) (a .root .0) card (checks (a .depth) c) (f (passed a card c (v .0))))
+
+-- On a card where every tag is right a call is accepted within its limits, and names no wrong tag in any case.
+module _ (F : List ℕ → List ℕ) (a : Anchor) (card : List ℕ) (clean : Clean F (a .depth) (a .root .0) card) (c : Call) where
+  pub clean-accepts : Passes a card c → answerOf F a card c ≡ Whole
+  clean-accepts p = accept F a card c (record { limits-passed = p; tags-right = λ u m. clean .right u (checks-nodes a card c p u m) })
+
+  pub clean-answers : (u : Node) → answerOf F a card c ≡ Wrong u → ⊥
+  clean-answers = never-wrong F a card c (λ p u m. clean .right u (checks-nodes a card c p u m))
 
 -- Outcomes
 

@@ -4,9 +4,7 @@ pub mod NodeLaws
 pub mod LabelLaws
 pub mod CardLaws
 pub mod WriteLaws
-pub mod StampLaws
 pub mod RangeLaws
-pub mod WalkLaws
+pub mod LimitLaws
 pub mod CallLaws
 pub mod AnswerLaws
-pub mod ScopeTable

@@ -1,7 +1,7 @@
 -- The cards that format and write leave: their labels, their messages and their tags.
 use mathlib.Core.Path.{_≡_, sym, ap, subst, _∙_}
 use mathlib.Core.List.{List}
-use mathlib.Core.Logic.{_⊎_, inl, inr}
+use mathlib.Core.Logic.{_⊎_, inl, inr, ⊎-elim}
 use Prim.Native.Nat.{ℕ, _+_, _/_, _^_, _<_, _≤_}
 use native.Mathlib.Omega.{arith}
 use lib.ListN.{length}
@@ -105,3 +105,26 @@ module _ (F : List ℕ → List ℕ) (F16 : (m : List ℕ) → length (F m) ≡ 
         ap F (written-message w h
         ∙ message-same L M w (new-off n r i b inside M w (off-child n i inside w h f)) (new-off n r i b inside M (w / 2) f))
         ∙ right ∙ sym (written-keeps w h f .tag-same)
+
+-- Cards on which every tag is right
+
+pub record Clean (F : List ℕ → List ℕ) (n t : ℕ) (card : List ℕ) : Type 0 where
+  pub full : length card ≡ cardLength n
+  pub right : (u : ℕ) → IsNode n u → Right F n t card u
+
+module _ (F : List ℕ → List ℕ) (F16 : (m : List ℕ) → length (F m) ≡ 16) (n : ℕ) (deep : 1 ≤ n) where
+  -- such is the card that a format leaves, whatever it was
+  pub clean-blanked : (t : ℕ) (card : List ℕ) → length card ≡ cardLength n → Clean F n t (blanked F n t card)
+  clean-blanked t card full = record { full = blanked-length F F16 n deep t card full; right = blanked-right F F16 n deep t card full }
+
+  -- and the one that a write on such a card leaves
+  pub clean-written : (t r : ℕ) (card : List ℕ) (i : ℕ) (b : List ℕ) → i < 2 ^ n → length b ≡ 64 → Clean F n t card
+      → Clean F n (r + n) (written F n t r card i b)
+  clean-written t r card i b inside long c =
+      record {
+        full = written-length F F16 n deep t r card i b (c .full) inside long;
+        right = λ u h.
+            ⊎-elim (λ (k : Child n i inside u). stamped-right F F16 n deep t r card i b (c .full) inside long u k)
+            (λ (o : Off n i inside n (u / 2)). right-stays F F16 n deep t r card i b (c .full) inside long u h o (c .right u h))
+            (child-or-off n i inside u h);
+      }

@@ -33,15 +33,19 @@ isWrite (read i buffer) = false
 isWrite (write i block ranges) = true
 isWrite check = false
 
--- the limits that a call tests, in this order
+-- 1, 2 and 3, with which every call after format begins; len is the card's length
+abbrev pub firstLimits : Anchor → ℕ → List Limit
+firstLimits a len = depthLimit (a .depth) ∷ nonceLimit (a .depth) (a .root .0) ∷ cardLimit (a .depth) len ∷ []
+
+-- the limits that a call tests behind them, in this order
+abbrev pub ownLimits : Anchor → Call → List Limit
+ownLimits a (read i buffer) = blockLimit (a .depth) i ∷ lengthLimit (length buffer) ∷ []
+ownLimits a (write i block ranges) =
+    blockLimit (a .depth) i ∷ lengthLimit (length block) ∷ rangeLimit (a .depth) (length ranges) ∷ spentLimit (a .depth) (a .root .0) ∷ []
+ownLimits a check = []
+
 unfoldable pub limits : Anchor → List ℕ → Call → List Limit
-limits a card (read i buffer) =
-    depthLimit (a .depth) ∷ nonceLimit (a .depth) (a .root .0) ∷ cardLimit (a .depth) (length card) ∷ blockLimit (a .depth) i
-    ∷ lengthLimit (length buffer) ∷ []
-limits a card (write i block ranges) =
-    depthLimit (a .depth) ∷ nonceLimit (a .depth) (a .root .0) ∷ cardLimit (a .depth) (length card) ∷ blockLimit (a .depth) i
-    ∷ lengthLimit (length block) ∷ rangeLimit (a .depth) (length ranges) ∷ spentLimit (a .depth) (a .root .0) ∷ []
-limits a card check = depthLimit (a .depth) ∷ nonceLimit (a .depth) (a .root .0) ∷ cardLimit (a .depth) (length card) ∷ []
+limits a card c = firstLimits a (length card) ++ ownLimits a c
 
 -- the nodes whose tags a call checks, in this order
 unfoldable pub checks : ℕ → Call → List ℕ

@@ -1,65 +1,88 @@
 // The limits, each as a test of its own, by document 01's numbers. A comment says what is passed.
+use crate::Anchor;
+use crate::Answer;
 use crate::BlockIndex;
 use crate::Nonce;
+use crate::Refusal;
 ghost use mathlib.Core.Path.{_≡_};
+ghost use mathlib.Core.Option.{none};
 ghost use Prim.Native.Nat.{_≤_, _<_};
-ghost use Rattle.tree.specs.Limits.{depthLimit, nonceLimit, cardLimit, blockLimit, lengthLimit, rangeLimit, spentLimit};
+ghost use Rattle.tree.specs.Limits.{depthLimit, nonceLimit, cardLimit, blockLimit, lengthLimit, rangeLimit, spentLimit, firstFailing};
 ghost use Rattle.tree.specs.Tests.{failing};
+ghost use Rattle.tree.specs.Calls.{firstLimits, verdict};
 
 // What a test answers.
-pub(crate) enum Test {
+pub enum Test {
     Passed,
     Failed,
 }
 
 // 1: the depth is 1 to 16.
-pub(crate) fn depth(n: u64) -> Test
-    ensures { λ r. ⌜ r ≡ failing (depthLimit n .fails) ⌝ }
+pub fn depth(depth: u64) -> Test
+    ensures { λ r. ⌜ r ≡ failing (depthLimit depth .fails) ⌝ }
 {
-    if n == 0 {
+    if depth == 0 {
         return Test::Failed;
     }
-    if 16 < n {
+    if 16 < depth {
         return Test::Failed;
     }
     Test::Passed
 }
 
 // 2: the root nonce is a multiple of the depth.
-pub(crate) fn root_nonce(n: u64, t: Nonce) -> Test
-    requires { ⌜ 1 ≤ n ⌝ }
-    ensures { λ r. ⌜ r ≡ failing (nonceLimit n (t .0) .fails) ⌝ }
+pub fn root_nonce(depth: u64, root: Nonce) -> Test
+    requires { ⌜ 1 ≤ depth ⌝ }
+    ensures { λ r. ⌜ r ≡ failing (nonceLimit depth (root .0) .fails) ⌝ }
 {
-    if t.0 % n == 0 {
+    if root.0 % depth == 0 {
         return Test::Passed;
     }
     Test::Failed
 }
 
 // 3: the card has its length.
-pub(crate) fn card_length(n: u64, len: usize) -> Test
-    requires { ⌜ n ≤ 16 ⌝ }
-    ensures { λ r. ⌜ r ≡ failing (cardLimit n len .fails) ⌝ }
+pub fn card_length(depth: u64, len: usize) -> Test
+    requires { ⌜ depth ≤ 16 ⌝ }
+    ensures { λ r. ⌜ r ≡ failing (cardLimit depth len .fails) ⌝ }
 {
-    if len as u64 == 104 * crate::layout::leaves(n) - 48 {
+    if len as u64 == 104 * crate::layout::leaves(depth) - 48 {
         return Test::Passed;
     }
     Test::Failed
 }
 
-// 4: there is such a block.
-pub(crate) fn block_number(n: u64, i: BlockIndex) -> Test
-    requires { ⌜ n ≤ 16 ⌝ }
-    ensures { λ r. ⌜ r ≡ failing (blockLimit n (i .0) .fails) ⌝ }
+// 1, 2 and 3 in a row, with which every call after format begins: whole, or the refusal. `len` is the card's length.
+pub fn first(anchor: Anchor, len: usize) -> Answer
+    ensures { λ r. ⌜ r ≡ verdict (firstFailing (firstLimits anchor len)) none ⌝ }
 {
-    if i.0 < crate::layout::leaves(n) {
+    let depth = anchor.depth;
+    let Test::Passed = self::depth(depth) else {
+        return Answer::Refused(Refusal::Depth);
+    };
+    let root = anchor.root;
+    let Test::Passed = root_nonce(depth, root) else {
+        return Answer::Refused(Refusal::RootNonce);
+    };
+    let Test::Passed = card_length(depth, len) else {
+        return Answer::Refused(Refusal::CardLength);
+    };
+    Answer::Whole
+}
+
+// 4: there is such a block.
+pub fn block_number(depth: u64, index: BlockIndex) -> Test
+    requires { ⌜ depth ≤ 16 ⌝ }
+    ensures { λ r. ⌜ r ≡ failing (blockLimit depth (index .0) .fails) ⌝ }
+{
+    if index.0 < crate::layout::leaves(depth) {
         return Test::Passed;
     }
     Test::Failed
 }
 
 // 5: a read buffer or a new block has 64 bytes.
-pub(crate) fn block_length(len: usize) -> Test
+pub fn block_length(len: usize) -> Test
     ensures { λ r. ⌜ r ≡ failing (lengthLimit len .fails) ⌝ }
 {
     if len == 64 {
@@ -69,21 +92,21 @@ pub(crate) fn block_length(len: usize) -> Test
 }
 
 // 6: the range buffer has room.
-pub(crate) fn range_length(n: u64, len: usize) -> Test
-    requires { ⌜ n ≤ 16 ⌝ }
-    ensures { λ r. ⌜ r ≡ failing (rangeLimit n len .fails) ⌝ }
+pub fn range_length(depth: u64, len: usize) -> Test
+    requires { ⌜ depth ≤ 16 ⌝ }
+    ensures { λ r. ⌜ r ≡ failing (rangeLimit depth len .fails) ⌝ }
 {
-    if (len as u64) < 16 * n {
+    if (len as u64) < 16 * depth {
         return Test::Failed;
     }
     Test::Passed
 }
 
-// 7: the nonces after r suffice for one more write.
-pub(crate) fn nonces_spent(n: u64, r: Nonce) -> Test
-    ensures { λ q. ⌜ q ≡ failing (spentLimit n (r .0) .fails) ⌝ }
+// 7: the nonces after the last one used suffice for one more write.
+pub fn nonces_spent(depth: u64, last: Nonce) -> Test
+    ensures { λ r. ⌜ r ≡ failing (spentLimit depth (last .0) .fails) ⌝ }
 {
-    if 18446744073709551615 - n < r.0 {
+    if 18446744073709551615 - depth < last.0 {
         return Test::Failed;
     }
     Test::Passed

@@ -4,15 +4,15 @@ ghost use Rattle.words.specs.Words.{bytes};
 ghost use Rattle.tree.specs.Numbers.{be, be8};
 
 // A number of four bytes.
-pub fn be4(v: u32) -> u32
-    ensures { λ r. ⌜ bytes 4 r ≡ be 4 v ⌝ }
+pub fn be4(number: u32) -> u32
+    ensures { λ r. ⌜ bytes 4 r ≡ be 4 number ⌝ }
 {
-    words::reversed_word(v)
+    words::reversed_word(number)
 }
 
 // A number of eight bytes.
-pub fn be8(x: u64) -> u64
-    ensures { λ r. ⌜ bytes 8 r ≡ be8 x ⌝ }
+pub fn be8(number: u64) -> u64
+    ensures { λ r. ⌜ bytes 8 r ≡ be8 number ⌝ }
 {
-    words::reversed_double_word(x)
+    words::reversed_double_word(number)
 }

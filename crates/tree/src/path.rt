@@ -5,21 +5,21 @@ ghost use mathlib.Core.Path.{_≡_};
 ghost use Prim.Native.Nat.{_^_, _≤_, _<_};
 ghost use Rattle.tree.specs.Nodes.{pathNode, sibling};
 
-// u_y, at level y of the path to block i.
-pub(crate) fn node(n: u64, i: BlockIndex, y: u64) -> Node
-    requires { ⌜ (y ≤ n) × (n ≤ 16) ⌝ }
-    requires { ⌜ i .0 < 2 ^ n ⌝ }
-    ensures { λ r. ⌜ r .0 ≡ pathNode n (i .0) y ⌝ }
+// The node at a level of the path to a block.
+pub fn node(depth: u64, index: BlockIndex, level: u64) -> Node
+    requires { ⌜ (level ≤ depth) × (depth ≤ 16) ⌝ }
+    requires { ⌜ index .0 < 2 ^ depth ⌝ }
+    ensures { λ r. ⌜ r .0 ≡ pathNode depth (index .0) level ⌝ }
 {
-    let leaf = crate::layout::leaves(n) + i.0;
-    Node(leaf >> (n - y))
+    let leaf = crate::layout::leaves(depth) + index.0;
+    Node(leaf >> (depth - level))
 }
 
-// The other child of u's parent.
-pub(crate) fn sibling(u: Node) -> Node
-    requires { ⌜ u .0 < 131072 ⌝ }
-    ensures { λ r. ⌜ r .0 ≡ sibling (u .0) ⌝ }
+// The other child of a node's parent.
+pub fn sibling(node: Node) -> Node
+    requires { ⌜ node .0 < 131072 ⌝ }
+    ensures { λ r. ⌜ r .0 ≡ sibling (node .0) ⌝ }
 {
-    let v = u.0;
-    Node(v + 1 - 2 * (v % 2))
+    let u = node.0;
+    Node(u + 1 - 2 * (u % 2))
 }

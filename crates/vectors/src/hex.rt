@@ -13,7 +13,7 @@ pub fn digits(bytes: &[u8; 16]) -> [u8; 32] {
 }
 
 // The digit of the low four bits.
-fn digit(n: u8) -> u8 {
-    let d = n % 16;
+fn digit(value: u8) -> u8 {
+    let d = value % 16;
     if d < 10 { b'0' + d } else { b'a' + (d - 10) }
 }

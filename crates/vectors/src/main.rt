@@ -175,32 +175,35 @@ fn main() {
 fn encrypted(label: &[u8], key: [u8; 16], input: &[u8])
     requires { ⌜ 16 ≤ length (now input) ⌝ }
 {
-    let s = cipher::sbox::table();
-    let w = cipher::key::expand(&s, key);
-    let t = cipher::round_table::table();
-    let c = cipher::encrypt(&t, &w, words::block_at(input, 0));
-    line(label, words::bytes_of(c));
+    let sbox = cipher::sbox::table();
+    let schedule = cipher::key::expand(&sbox, key);
+    let table = cipher::round_table::table();
+    let output = cipher::encrypt(&table, &schedule, words::block_at(input, 0));
+    line(label, words::bytes_of(output));
 }
 
 // Prints both subkeys.
 fn subkeys() {
-    let t = cipher::round_table::table();
-    let c = cmac::context_of(&t, KEY);
+    let table = cmac::table();
+    let context = cmac::context_of(&table, KEY);
     line(
         b"RFC 4493 K1           ",
-        words::bytes_of(words::block_at(&c.subkeys, 0)),
+        words::bytes_of(words::block_at(&context.subkeys, 0)),
     );
     line(
         b"RFC 4493 K2           ",
-        words::bytes_of(words::block_at(&c.subkeys, 16)),
+        words::bytes_of(words::block_at(&context.subkeys, 16)),
     );
 }
 
 // Prints the tag of a message.
 fn tagged(label: &[u8], message: &[u8]) {
-    let t = cipher::round_table::table();
-    let c = cmac::context_of(&t, KEY);
-    line(label, cmac::tag(&t, &c.schedule, &c.subkeys, message));
+    let table = cmac::table();
+    let context = cmac::context_of(&table, KEY);
+    line(
+        label,
+        cmac::tag(&table, &context.schedule, &context.subkeys, message),
+    );
 }
 
 // Prints a label and 16 bytes in hexadecimal.

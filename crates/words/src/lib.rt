@@ -22,35 +22,35 @@ pub struct Columns {
 }
 
 // The four bytes of a word, as indices.
-pub fn byte0(w: u32) -> usize
-    ensures { λ r. ⌜ r ≡ at (bytes 4 w) 0 ⌝ }
+pub fn byte0(word: u32) -> usize
+    ensures { λ r. ⌜ r ≡ at (bytes 4 word) 0 ⌝ }
 {
-    (w % 256) as usize
+    (word % 256) as usize
 }
 
-pub fn byte1(w: u32) -> usize
-    ensures { λ r. ⌜ r ≡ at (bytes 4 w) 1 ⌝ }
+pub fn byte1(word: u32) -> usize
+    ensures { λ r. ⌜ r ≡ at (bytes 4 word) 1 ⌝ }
 {
-    (w / 256 % 256) as usize
+    (word / 256 % 256) as usize
 }
 
-pub fn byte2(w: u32) -> usize
-    ensures { λ r. ⌜ r ≡ at (bytes 4 w) 2 ⌝ }
+pub fn byte2(word: u32) -> usize
+    ensures { λ r. ⌜ r ≡ at (bytes 4 word) 2 ⌝ }
 {
-    (w / 65536 % 256) as usize
+    (word / 65536 % 256) as usize
 }
 
-pub fn byte3(w: u32) -> usize
-    ensures { λ r. ⌜ r ≡ at (bytes 4 w) 3 ⌝ }
+pub fn byte3(word: u32) -> usize
+    ensures { λ r. ⌜ r ≡ at (bytes 4 word) 3 ⌝ }
 {
-    (w / 16777216) as usize
+    (word / 16777216) as usize
 }
 
 // Four bytes in a word.
-pub fn word_of(a: u8, b: u8, c: u8, d: u8) -> u32
-    ensures { λ r. ⌜ bytes 4 r ≡ a ∷ b ∷ c ∷ d ∷ [] ⌝ }
+pub fn word_of(first: u8, second: u8, third: u8, fourth: u8) -> u32
+    ensures { λ r. ⌜ bytes 4 r ≡ first ∷ second ∷ third ∷ fourth ∷ [] ⌝ }
 {
-    a as u32 + b as u32 * 256 + c as u32 * 65536 + d as u32 * 16777216
+    first as u32 + second as u32 * 256 + third as u32 * 65536 + fourth as u32 * 16777216
 }
 
 // Two words in one.
@@ -61,99 +61,104 @@ pub fn double_word(low: u32, high: u32) -> u64
 }
 
 // A word of four or eight bytes with the last byte first.
-pub fn reversed_word(w: u32) -> u32
-    ensures { λ r. ⌜ bytes 4 r ≡ reverse (bytes 4 w) ⌝ }
+pub fn reversed_word(word: u32) -> u32
+    ensures { λ r. ⌜ bytes 4 r ≡ reverse (bytes 4 word) ⌝ }
 {
     word_of(
-        byte3(w) as u8,
-        byte2(w) as u8,
-        byte1(w) as u8,
-        byte0(w) as u8,
+        byte3(word) as u8,
+        byte2(word) as u8,
+        byte1(word) as u8,
+        byte0(word) as u8,
     )
 }
 
-pub fn reversed_double_word(w: u64) -> u64
-    ensures { λ r. ⌜ bytes 8 r ≡ reverse (bytes 8 w) ⌝ }
+pub fn reversed_double_word(word: u64) -> u64
+    ensures { λ r. ⌜ bytes 8 r ≡ reverse (bytes 8 word) ⌝ }
 {
     double_word(
-        reversed_word((w / 4294967296) as u32),
-        reversed_word((w % 4294967296) as u32),
+        reversed_word((word / 4294967296) as u32),
+        reversed_word((word % 4294967296) as u32),
     )
 }
 
-// The bytes of s from o, four, eight or 16 of them.
-pub fn word_at(s: &[u8], o: usize) -> u32
-    requires { ⌜ o + 4 ≤ length (now s) ⌝ }
-    ensures { λ r. ⌜ bytes 4 r ≡ part (now (s .entry)) o 4 ⌝ }
+// The bytes of a string from one of them on, four, eight or 16.
+pub fn word_at(string: &[u8], start: usize) -> u32
+    requires { ⌜ start + 4 ≤ length (now string) ⌝ }
+    ensures { λ r. ⌜ bytes 4 r ≡ part (now (string .entry)) start 4 ⌝ }
 {
-    word_of(s[o], s[o + 1], s[o + 2], s[o + 3])
+    word_of(
+        string[start],
+        string[start + 1],
+        string[start + 2],
+        string[start + 3],
+    )
 }
 
-pub fn double_word_at(s: &[u8], o: usize) -> u64
-    requires { ⌜ o + 8 ≤ length (now s) ⌝ }
-    ensures { λ r. ⌜ bytes 8 r ≡ part (now (s .entry)) o 8 ⌝ }
+pub fn double_word_at(string: &[u8], start: usize) -> u64
+    requires { ⌜ start + 8 ≤ length (now string) ⌝ }
+    ensures { λ r. ⌜ bytes 8 r ≡ part (now (string .entry)) start 8 ⌝ }
 {
-    double_word(word_at(s, o), word_at(s, o + 4))
+    double_word(word_at(string, start), word_at(string, start + 4))
 }
 
-pub fn block_at(s: &[u8], o: usize) -> Block
-    requires { ⌜ o + 16 ≤ length (now s) ⌝ }
-    ensures { λ r. ⌜ blockOf r ≡ part (now (s .entry)) o 16 ⌝ }
+pub fn block_at(string: &[u8], start: usize) -> Block
+    requires { ⌜ start + 16 ≤ length (now string) ⌝ }
+    ensures { λ r. ⌜ blockOf r ≡ part (now (string .entry)) start 16 ⌝ }
 {
     Block {
-        head: double_word_at(s, o),
-        tail: double_word_at(s, o + 8),
+        head: double_word_at(string, start),
+        tail: double_word_at(string, start + 8),
     }
 }
 
-pub fn columns_at(s: &[u8], o: usize) -> Columns
-    requires { ⌜ o + 16 ≤ length (now s) ⌝ }
-    ensures { λ r. ⌜ stateOf r ≡ part (now (s .entry)) o 16 ⌝ }
+pub fn columns_at(string: &[u8], start: usize) -> Columns
+    requires { ⌜ start + 16 ≤ length (now string) ⌝ }
+    ensures { λ r. ⌜ stateOf r ≡ part (now (string .entry)) start 16 ⌝ }
 {
     Columns {
-        c0: word_at(s, o),
-        c1: word_at(s, o + 4),
-        c2: word_at(s, o + 8),
-        c3: word_at(s, o + 12),
+        c0: word_at(string, start),
+        c1: word_at(string, start + 4),
+        c2: word_at(string, start + 8),
+        c3: word_at(string, start + 12),
     }
 }
 
 // Two blocks, byte by byte.
-pub fn xored(p: Block, q: Block) -> Block
-    ensures { λ r. ⌜ blockOf r ≡ xorBlock (blockOf p) (blockOf q) ⌝ }
+pub fn xored(left: Block, right: Block) -> Block
+    ensures { λ r. ⌜ blockOf r ≡ xorBlock (blockOf left) (blockOf right) ⌝ }
 {
     Block {
-        head: p.head ^ q.head,
-        tail: p.tail ^ q.tail,
+        head: left.head ^ right.head,
+        tail: left.tail ^ right.tail,
     }
 }
 
 // A block as columns, and columns as a block.
-pub fn split(b: Block) -> Columns
-    ensures { λ r. ⌜ stateOf r ≡ blockOf b ⌝ }
+pub fn split(block: Block) -> Columns
+    ensures { λ r. ⌜ stateOf r ≡ blockOf block ⌝ }
 {
     Columns {
-        c0: (b.head % 4294967296) as u32,
-        c1: (b.head / 4294967296) as u32,
-        c2: (b.tail % 4294967296) as u32,
-        c3: (b.tail / 4294967296) as u32,
+        c0: (block.head % 4294967296) as u32,
+        c1: (block.head / 4294967296) as u32,
+        c2: (block.tail % 4294967296) as u32,
+        c3: (block.tail / 4294967296) as u32,
     }
 }
 
-pub fn joined(s: Columns) -> Block
-    ensures { λ r. ⌜ blockOf r ≡ stateOf s ⌝ }
+pub fn joined(columns: Columns) -> Block
+    ensures { λ r. ⌜ blockOf r ≡ stateOf columns ⌝ }
 {
     Block {
-        head: double_word(s.c0, s.c1),
-        tail: double_word(s.c2, s.c3),
+        head: double_word(columns.c0, columns.c1),
+        tail: double_word(columns.c2, columns.c3),
     }
 }
 
 // A block as its 16 bytes.
-pub fn bytes_of(b: Block) -> [u8; 16]
-    ensures { λ r. ⌜ r ≡ blockOf b ⌝ }
+pub fn bytes_of(block: Block) -> [u8; 16]
+    ensures { λ r. ⌜ r ≡ blockOf block ⌝ }
 {
-    let s = split(b);
+    let s = split(block);
     [
         byte0(s.c0) as u8,
         byte1(s.c0) as u8,
@@ -175,49 +180,49 @@ pub fn bytes_of(b: Block) -> [u8; 16]
 }
 
 // Whether two blocks have the same bytes.
-pub fn equal(p: Block, q: Block) -> bool
-    ensures { λ r. ⌜ r ≡ same (blockOf p) (blockOf q) ⌝ }
+pub fn equal(left: Block, right: Block) -> bool
+    ensures { λ r. ⌜ r ≡ same (blockOf left) (blockOf right) ⌝ }
 {
-    p.head == q.head && p.tail == q.tail
+    left.head == right.head && left.tail == right.tail
 }
 
-// Puts a word of four or eight bytes, a block, or the bytes x into s from o.
-pub fn put_word(s: &mut [u8], o: usize, v: u32)
-    requires { ⌜ o + 4 ≤ length (now s) ⌝ }
-    ensures { λ _. ⌜ now (s .exit) ≡ sets (now (s .entry)) o (bytes 4 v) ⌝ }
+// Puts a word of four or eight bytes, a block, or another string into a string from one of its bytes on.
+pub fn put_word(string: &mut [u8], start: usize, word: u32)
+    requires { ⌜ start + 4 ≤ length (now string) ⌝ }
+    ensures { λ _. ⌜ now (string .exit) ≡ sets (now (string .entry)) start (bytes 4 word) ⌝ }
 {
-    s[o] = byte0(v) as u8;
-    s[o + 1] = byte1(v) as u8;
-    s[o + 2] = byte2(v) as u8;
-    s[o + 3] = byte3(v) as u8;
+    string[start] = byte0(word) as u8;
+    string[start + 1] = byte1(word) as u8;
+    string[start + 2] = byte2(word) as u8;
+    string[start + 3] = byte3(word) as u8;
 }
 
-pub fn put_double_word(s: &mut [u8], o: usize, v: u64)
-    requires { ⌜ o + 8 ≤ length (now s) ⌝ }
-    ensures { λ _. ⌜ now (s .exit) ≡ sets (now (s .entry)) o (bytes 8 v) ⌝ }
+pub fn put_double_word(string: &mut [u8], start: usize, word: u64)
+    requires { ⌜ start + 8 ≤ length (now string) ⌝ }
+    ensures { λ _. ⌜ now (string .exit) ≡ sets (now (string .entry)) start (bytes 8 word) ⌝ }
 {
-    put_word(s, o, (v % 4294967296) as u32);
-    put_word(s, o + 4, (v / 4294967296) as u32);
+    put_word(string, start, (word % 4294967296) as u32);
+    put_word(string, start + 4, (word / 4294967296) as u32);
 }
 
-pub fn put_block(s: &mut [u8], o: usize, b: Block)
-    requires { ⌜ o + 16 ≤ length (now s) ⌝ }
-    ensures { λ _. ⌜ now (s .exit) ≡ sets (now (s .entry)) o (blockOf b) ⌝ }
+pub fn put_block(string: &mut [u8], start: usize, block: Block)
+    requires { ⌜ start + 16 ≤ length (now string) ⌝ }
+    ensures { λ _. ⌜ now (string .exit) ≡ sets (now (string .entry)) start (blockOf block) ⌝ }
 {
-    let k = split(b);
-    put_word(s, o, k.c0);
-    put_word(s, o + 4, k.c1);
-    put_word(s, o + 8, k.c2);
-    put_word(s, o + 12, k.c3);
+    let k = split(block);
+    put_word(string, start, k.c0);
+    put_word(string, start + 4, k.c1);
+    put_word(string, start + 8, k.c2);
+    put_word(string, start + 12, k.c3);
 }
 
-pub fn put(s: &mut [u8], o: usize, x: &[u8])
-    requires { ⌜ o + length (now x) ≤ length (now s) ⌝ }
-    ensures { λ _. ⌜ now (s .exit) ≡ sets (now (s .entry)) o (now (x .entry)) ⌝ }
+pub fn put(string: &mut [u8], start: usize, piece: &[u8])
+    requires { ⌜ start + length (now piece) ≤ length (now string) ⌝ }
+    ensures { λ _. ⌜ now (string .exit) ≡ sets (now (string .entry)) start (now (piece .entry)) ⌝ }
 {
     let mut i: usize = 0;
-    while i < x.len() {
-        s[o + i] = x[i];
+    while i < piece.len() {
+        string[start + i] = piece[i];
         i += 1;
     }
 }

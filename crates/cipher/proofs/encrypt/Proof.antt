@@ -13,10 +13,10 @@ use Rattle.cipher.proofs.encrypt.Statement.{statement}
 use Rattle.cipher.proofs.encrypt.Tie as tie
 
 abbrev Inv-loop : tie.InvT-loop
-Inv-loop t w s₀ i₀ s i = (i ≤ 9) × (stateOf s ≡ rounds w (stateOf s₀) i)
+Inv-loop table schedule state₀ i₀ state i = (i ≤ 9) × (stateOf state ≡ rounds schedule (stateOf state₀) i)
 
 abbrev μ-loop : tie.MeasureT-loop
-μ-loop t w s₀ i₀ s i = 9 - i
+μ-loop table schedule state₀ i₀ state i = 9 - i
 
 loop-holds : tie.Need-loop-holds Inv-loop μ-loop
 unfolding rounds
@@ -26,7 +26,7 @@ loop-again : tie.Need-loop-again Inv-loop μ-loop
 unfolding roundKey
 loop-again c =
     let turn = c .before .before .before .before in
-    let w = now (turn .before .before .before .before .before .args .w) in (
+    let w = now (turn .before .before .before .before .before .args .schedule) in (
       search needs,
       c .whole .ensures
           ∙ ap₂ (λ (s k : List ℕ). addRoundKey (mixColumns (shiftRows (subBytes s))) k) (turn .loop .inv .1) (c .before .columns-at .ensures)
@@ -38,7 +38,7 @@ unfolding roundKey lastRound cipherOf
 returns c =
     let end = c .before .before .before .before .before in
     let first = end .before in
-    let w = now (first .before .before .before .before .args .w) in
+    let w = now (first .before .before .before .before .args .schedule) in
     let n : end .loop .i ≡ 9 = omega arith in
     let s₀ = first .split .ensures ∙ first .before .xored .ensures
     ∙ round-key-added _ _ ∙ ap (addRoundKey _) (first .before .before .block-at .ensures) in

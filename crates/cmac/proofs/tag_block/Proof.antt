@@ -1,4 +1,4 @@
--- After i turns x is the state of the chain that takes block after block and, at turn n, the last block with its subkey.
+-- After i turns x is the state of the chain that takes block after block and, after `count` of them, the last one with its subkey.
 use Prim.Native.Nat.{ℕ, _+_, _-_, _*_, _≤_}
 use mathlib.Core.Path.{_≡_, refl, sym, ap, ap₂, _∙_}
 use mathlib.Core.List.{List, []}
@@ -16,15 +16,16 @@ use Rattle.cmac.proofs.tag_block.Statement.{statement}
 use Rattle.cmac.proofs.tag_block.Tie as tie
 
 abbrev Inv-loop : tie.InvT-loop
-Inv-loop t w k m n last x₀ i₀ x i = (i ≤ n + 1) × (16 * n ≤ length m) × (blockOf x ≡ turns (cipherOf w) (taken m (blockOf last) n) i)
+Inv-loop table schedule subkeys message count last x₀ i₀ x i =
+    (i ≤ count + 1) × (16 * count ≤ length message) × (blockOf x ≡ turns (cipherOf schedule) (taken message (blockOf last) count) i)
 
 abbrev μ-loop : tie.MeasureT-loop
-μ-loop t w k m n last x₀ i₀ x i = n + 1 - i
+μ-loop table schedule subkeys message count last x₀ i₀ x i = count + 1 - i
 
 loop-holds : tie.Need-loop-holds Inv-loop μ-loop
 unfolding turns
 loop-holds c =
-    let m = now (c .before .before .before .args .m) in
+    let m = now (c .before .before .before .args .message) in
     let counted = last-counted [] [] m (c .before .before-last .result) (c .before .before-last .ensures) in
     (search needs, counted .low, refl)
 
@@ -32,14 +33,14 @@ loop-again : tie.Need-loop-again Inv-loop μ-loop
 loop-again c =
     let turn = c .before .before .before .before in
     let start = turn .before .before .before .before in
-    let e = cipherOf (now (start .args .w)) in
+    let e = cipherOf (now (start .args .schedule)) in
     let l = blockOf (turn .before .last .result) in
     let n = turn .before .before .before-last .result in (
       search needs,
       search needs,
       c .encrypt .ensures
           ∙ ap e (c .before .xored .ensures ∙ ap₂ xorBlock (turn .loop .inv .2) (c .before .before .input .ensures))
-          ∙ sym (turns-more e (taken (now (start .args .m)) l n) (turn .loop .i)),
+          ∙ sym (turns-more e (taken (now (start .args .message)) l n) (turn .loop .i)),
     )
 
 returns : tie.Need-returns Inv-loop μ-loop
@@ -49,8 +50,8 @@ returns c =
     let last = c .before .before .last in
     let n = c .before .before .before .before-last in
     let start = c .before .before .before .before .before in
-    let e = cipherOf (now (start .args .w)) in
-    let m = now (start .args .m) in
+    let e = cipherOf (now (start .args .schedule)) in
+    let m = now (start .args .message) in
     let i : loop .i ≡ n .result + 1 = omega arith in
     loop .inv .2 ∙ ap₂ (λ (l : List ℕ) (i : ℕ). turns e (taken m l (n .result)) i) (last .ensures) i
     ∙ turns-whole e _ _ m (n .result) (n .ensures)

@@ -4,10 +4,10 @@ use Rattle.histories.proofs.main.Statement.{statement}
 use Rattle.histories.proofs.main.Tie as tie
 
 abbrev Inv-loop : tie.InvT-loop
-Inv-loop n₀ n = (1 ≤ n) × (n ≤ 7)
+Inv-loop depth₀ depth = (1 ≤ depth) × (depth ≤ 7)
 
 abbrev μ-loop : tie.MeasureT-loop
-μ-loop n₀ n = 7 - n
+μ-loop depth₀ depth = 7 - depth
 
 pub main-spec : {M : Type 1} → statement M
 main-spec =

@@ -42,18 +42,18 @@ use denote.Triple.Walked.{says, Stays, stay-ref, gave-slice, stay-dropped, walkO
 use denote.Exit.{yes}
 use denote.Signature.{plain, shrSliceOf}
 use Rattle.tree.specs.declared.Anchor.{Anchor}
-use Rattle.pat.specs.declared.boot.Reply.{Reply}
+use Rattle.pat.specs.declared.in_place.Reply.{Reply}
 use Rattle.tree.proofs.Anchor as T
 use Rattle.tree.proofs.Anchor.Laws as T′
-use Rattle.pat.proofs.boot.Reply as O
-use Rattle.pat.proofs.boot.Reply.Laws as O′
+use Rattle.pat.proofs.in_place.Reply as O
+use Rattle.pat.proofs.in_place.Reply.Laws as O′
 use Rattle.cmac.specs.Cmac.{cmacOf}
 use Rattle.tree.specs.Calls.{write, outcome}
 use Rattle.pat.specs.Host.{Codes}
-use Rattle.pat.proofs.boot.write as callee
-use Rattle.pat.proofs.boot.write.Symbol as callee-def
-use Rattle.pat.proofs.boot.write.Symbol.{name as #pat·boot·write}
-use Rattle.pat.proofs.boot.write.Met as callee-thm
+use Rattle.pat.proofs.in_place.write as callee
+use Rattle.pat.proofs.in_place.write.Symbol as callee-def
+use Rattle.pat.proofs.in_place.write.Symbol.{name as #pat·in-place·write}
+use Rattle.pat.proofs.in_place.write.Met as callee-thm
 use Rattle.pat.proofs.pat_write_in_place.Key.{name as #pat·pat-write-in-place}
 use Rattle.pat.proofs.pat_write_in_place as self
 use Rattle.pat.proofs.pat_write_in_place.Statement as stated
@@ -118,7 +118,7 @@ module _ {M : Type 1} (𝓤 : URA M) (H : Heap 𝓤) (A : Atoms 𝓤) (W : Given
       qed W ((‵ (flft κcard qcard) ⊛ ‵ (flft κblock qblock) ⊛ ‵ (flft κranges qranges) ⊛ ‵ ftrue) ∷ ‵ (owns (MutSlice (named 0) κcard u8 ∷ u64 ∷ ShrSlice (named 1) κblock u8 ∷ MutSlice (named 2) κranges u8 ∷ []) (card, (i, (block, (ranges, tt)))) (slice card ∷ [], (index-val ∷ [], (slice block ∷ [], (slice ranges ∷ [], tt))))) ∷ []) ∵
       move ! (1 ∷ []) $ owned ! R (Is R) (LL.makes T.the-type T′.the-plain 𝓤 H A) h _ g $ fjoin ! $ move ! (1 ∷ 0 ∷ []) $ join ! $ frame ! $ done !
 
-  module _ (C : Calls 𝓤 H) (Λ : Loops 𝓤 H) (fm : FmC 𝓤 H (W .laws) C) (known : Triple 𝓤 (C #pat·boot·write) (Callee 𝓤 H A at-mem run)) where
+  module _ (C : Calls 𝓤 H) (Λ : Loops 𝓤 H) (fm : FmC 𝓤 H (W .laws) C) (known : Triple 𝓤 (C #pat·in-place·write) (Callee 𝓤 H A at-mem run)) where
     walk : Room u8 (length (card .now)) → Room u8 (length (block .now)) → Room u8 (length (ranges .now)) → Is u64 i (index-val ∷ []) → ent 𝓤 (onEntry 𝓤 H A self.signature (κ, (κcard, (κblock, (κranges, tt)))) (q, (qcard, (qblock, (qranges, tt)))) a vals) (WpFn 𝓤 H C Λ code.function (vptr b o ∷ slice card ∷ index-val ∷ slice block ∷ slice ranges ∷ []) Post)
     walk room room-block room-ranges gi =
         qed W ((‵ (flft κ q) ⊛ ‵ (flft κcard qcard) ⊛ ‵ (flft κblock qblock) ⊛ ‵ (flft κranges qranges) ⊛ ‵ ftrue) ∷ ‵ (owns (MutRef (named 0) κ R ∷ MutSlice (named 1) κcard u8 ∷ u64 ∷ ShrSlice (named 2) κblock u8 ∷ MutSlice (named 3) κranges u8 ∷ []) a vals) ∷ []) ∵ enter ! C Λ code.function (vptr b o ∷ slice card ∷ index-val ∷ slice block ∷ slice ranges ∷ []) _ $
@@ -172,13 +172,13 @@ module _ {M : Type 1} (𝓤 : URA M) (H : Heap 𝓤) (A : Atoms 𝓤) (W : Given
         by ! (leaves r (zs .1 .0) (zs .1 .1 .1 .1 .0) e l l′ (LL.owed O.the-type O′.the-laws r _ is .0)))))))))))))))))))))))
 
 module _ {M : Type 1} (𝓤 : URA M) (H : Heap 𝓤) (A : Atoms 𝓤) (W : Given 𝓤 H A) (mem : Memory → SProp 𝓤) (run : Routine → Fun 𝓤) where
-  walks : (C : Calls 𝓤 H) (Λ : Loops 𝓤 H) → FmC 𝓤 H (W .laws) C → Triple 𝓤 (C #pat·boot·write) (Callee 𝓤 H A mem run) → Walks 𝓤 H A self.ended stayed (WpFn 𝓤 H C Λ code.function) (self.clauses 𝓤 H A mem run)
+  walks : (C : Calls 𝓤 H) (Λ : Loops 𝓤 H) → FmC 𝓤 H (W .laws) C → Triple 𝓤 (C #pat·in-place·write) (Callee 𝓤 H A mem run) → Walks 𝓤 H A self.ended stayed (WpFn 𝓤 H C Λ code.function) (self.clauses 𝓤 H A mem run)
   walks C Λ fm known = walked 𝓤 H A self.ended stayed (self.clauses 𝓤 H A mem run) (WpFn 𝓤 H C Λ code.function)
       (λ κs. (ptr-vals, (slice-vals, (uint-vals w64, (slice-vals, (slice-vals, tt)))))) (λ κs. (mut-tells (named 0) (κs .0) T.the-row, (mut-slice-tells (named 1) (κs .1 .0) u8, (uint-tells w64, (shr-slice-tells (named 2) (κs .1 .1 .0) u8, (mut-slice-tells (named 3) (κs .1 .1 .1 .0) u8, tt))))))
       (λ κs qs bounds a g are. via 𝓤 _ (fst∗ 𝓤 _ (emp 𝓤))
       (walk 𝓤 H A W mem run (κs .0) (κs .1 .0) (κs .1 .1 .0) (κs .1 .1 .1 .0) bounds (qs .0) (qs .1 .0) (qs .1 .1 .0) (qs .1 .1 .1 .0) (a .0 .ptr .0) (a .0 .ptr .1) (a .0 .name) (a .0 .now) (a .1 .0) (a .1 .1 .0) (a .1 .1 .1 .0) (a .1 .1 .1 .1 .0) C Λ fm known (are .1 .0 .0 .1) (are .1 .1 .1 .0 .0 .1) (are .1 .1 .1 .1 .0 .0 .1) (are .1 .1 .0)))
 
-meets : {M : Type 1} (𝓤 : URA M) (H : Heap 𝓤) (A : Atoms 𝓤) → Given 𝓤 H A → (mem : Memory → SProp 𝓤) (run : Routine → Fun 𝓤) (𝓣 : Tables 𝓤 H) → Triple 𝓤 (𝓣 .C #pat·boot·write) (Callee 𝓤 H A mem run)
+meets : {M : Type 1} (𝓤 : URA M) (H : Heap 𝓤) (A : Atoms 𝓤) → Given 𝓤 H A → (mem : Memory → SProp 𝓤) (run : Routine → Fun 𝓤) (𝓣 : Tables 𝓤 H) → Triple 𝓤 (𝓣 .C #pat·in-place·write) (Callee 𝓤 H A mem run)
     → Meets 𝓤 H A self.signature (WpFn 𝓤 H (𝓣 .C) (𝓣 .Λ) code.function) (self.spec 𝓤 H A mem run)
 meets 𝓤 H A W mem run 𝓣 known =
     walk-meets 𝓤 H A self.ended stayed W (goes-ref 𝓤 H A W 4 0 tt (plain (λ _. T.the-row)), (goes-gave-slice 𝓤 H A W 4 1 tt (plain (λ _. u8)), (goes-dropped 𝓤 H A W 4 (plain (λ _. u64)) yes (λ κs x f. refl), (goes-dropped 𝓤 H A W 4 (shrSliceOf (2 ∷ []) tt (plain (λ _. u8))) yes (λ κs x f. refl), (goes-gave-slice 𝓤 H A W 4 3 tt (plain (λ _. u8)), tt))))) (self.clauses 𝓤 H A mem run)
@@ -190,4 +190,4 @@ pat-write-in-place-spec 𝓤 H 𝓜 𝓖 𝓡 =
     entered 𝓤 H (tripleOf 𝓤 H (𝓖 .A) self.signature (self.spec 𝓤 H (𝓖 .A) (𝓜 .mem) (𝓡 .run)))
     (tables 𝓤 H 𝓜 𝓡 code.env .C) (tables 𝓤 H 𝓜 𝓡 code.env .Λ) #pat·pat-write-in-place code.function (code.unfolded 𝓤 H 𝓜 𝓡)
     (meets 𝓤 H (𝓖 .A) (givenOf 𝓤 H 𝓜 𝓖) (𝓜 .mem) (𝓡 .run) (tablesOf 𝓤 H 𝓜 (tables 𝓤 H 𝓜 𝓡 code.env))
-    (cited 𝓤 H (Callee 𝓤 H (𝓖 .A) (𝓜 .mem) (𝓡 .run)) 𝓜 𝓡 code.env #pat·boot·write callee-def.routine code.calls-pat·boot·write (callee-thm.met 𝓤 H 𝓜 𝓖 𝓡)))
+    (cited 𝓤 H (Callee 𝓤 H (𝓖 .A) (𝓜 .mem) (𝓡 .run)) 𝓜 𝓡 code.env #pat·in-place·write callee-def.routine code.calls-pat·in-place·write (callee-thm.met 𝓤 H 𝓜 𝓖 𝓡)))

@@ -10,7 +10,7 @@ returns c =
     let a = c .before .before .before .before .before .args in
     four-columns (c .before .before .before .word-at .ensures) (c .before .before .word-at2 .ensures) (c .before .word-at3 .ensures)
     (c .word-at4 .ensures)
-    ∙ sym (part-columns (now (a .s)) (a .o))
+    ∙ sym (part-columns (now (a .string)) (a .start))
 
 pub columns-at-spec : {M : Type 1} → statement M
 columns-at-spec =

@@ -10,15 +10,15 @@ use Rattle.words.proofs.equal.Tie as tie
 returns : tie.Need-returns
 returns c =
     let a = c .before .before .before .before .before .args in
-    ap (λ (x : Bool). x && eqb (a .p .tail) (a .q .tail)) (sym (eq-eqb (a .p .head) (a .q .head) (c .before .before .if1 .taken)))
-    ∙ same-words (a .p .head) (a .p .tail) (a .q .head) (a .q .tail) (omega arith) (omega arith) (omega arith) (omega arith)
+    ap (λ (x : Bool). x && eqb (a .left .tail) (a .right .tail)) (sym (eq-eqb (a .left .head) (a .right .head) (c .before .before .if1 .taken)))
+    ∙ same-words (a .left .head) (a .left .tail) (a .right .head) (a .right .tail) (omega arith) (omega arith) (omega arith) (omega arith)
 
 returns-2 : tie.Need-returns-2
 returns-2 c =
     let a = c .before .before .before .args in
-    let e = ne-eqb (a .p .head) (a .q .head) (c .if1 .left) in
-    e ∙ sym (ap (λ (x : Bool). x && eqb (a .p .tail) (a .q .tail)) e)
-    ∙ same-words (a .p .head) (a .p .tail) (a .q .head) (a .q .tail) (omega arith) (omega arith) (omega arith) (omega arith)
+    let e = ne-eqb (a .left .head) (a .right .head) (c .if1 .left) in
+    e ∙ sym (ap (λ (x : Bool). x && eqb (a .left .tail) (a .right .tail)) e)
+    ∙ same-words (a .left .head) (a .left .tail) (a .right .head) (a .right .tail) (omega arith) (omega arith) (omega arith) (omega arith)
 
 pub equal-spec : {M : Type 1} → statement M
 equal-spec = tie.close (tie.spec returns returns-2)

@@ -18,8 +18,8 @@ abbrev μ-loop : tie.MeasureT-loop
 loop-holds : tie.Need-loop-holds Inv-loop μ-loop
 loop-holds c = (omega arith, refl)
 
-slice-write-s : tie.Need-slice-write-s Inv-loop μ-loop
-slice-write-s c = rw (c .before .before .loop .inv .1, length-sets) (omega arith)
+slice-write-string : tie.Need-slice-write-string Inv-loop μ-loop
+slice-write-string c = rw (c .before .before .loop .inv .1, length-sets) (omega arith)
 
 loop-again : tie.Need-loop-again Inv-loop μ-loop
 loop-again c = (omega arith, rw (c .before .before .loop .inv .1) (sets-more _ _ _ _ (c .before .loop-test .taken)))
@@ -29,12 +29,12 @@ same-length c = rw (c .before .loop .inv .1) (simp length-sets)
 
 returns : tie.Need-returns Inv-loop μ-loop
 returns c =
-    let e : c .before .loop .i ≡ length (c .before .before .args .x .now) = omega arith in
+    let e : c .before .loop .i ≡ length (c .before .before .args .piece .now) = omega arith in
     c .before .loop .inv .1 ∙ rw (e, take-length)
 
 pub put-spec : {M : Type 1} → statement M
 put-spec =
     tie.close
     (tie.spec
-    Inv-loop μ-loop loop-holds (λ c. omega arith) (λ c. omega arith) slice-write-s (λ c. omega arith) (λ c. omega arith) loop-again same-length
+    Inv-loop μ-loop loop-holds (λ c. omega arith) (λ c. omega arith) slice-write-string (λ c. omega arith) (λ c. omega arith) loop-again same-length
     returns)

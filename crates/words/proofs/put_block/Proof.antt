@@ -19,12 +19,12 @@ returns c =
     let k = split .result in
     let a = p1 .before .before .before .before .args in
     p4 .put-word4 .ensures
-    ∙ ap (λ (l : List ℕ). sets l (a .o + 12) (bytes 4 (k .c3)))
+    ∙ ap (λ (l : List ℕ). sets l (a .start + 12) (bytes 4 (k .c3)))
     (p3 .put-word3 .ensures
-    ∙ ap (λ (l : List ℕ). sets l (a .o + 8) (bytes 4 (k .c2)))
-    (p2 .put-word2 .ensures ∙ ap (λ (l : List ℕ). sets l (a .o + 4) (bytes 4 (k .c1))) (p1 .put-word .ensures)))
-    ∙ sets-columns (now (a .s)) (a .o) (k .c0) (k .c1) (k .c2) (k .c3)
-    ∙ ap (sets (now (a .s)) (a .o)) (split .ensures)
+    ∙ ap (λ (l : List ℕ). sets l (a .start + 8) (bytes 4 (k .c2)))
+    (p2 .put-word2 .ensures ∙ ap (λ (l : List ℕ). sets l (a .start + 4) (bytes 4 (k .c1))) (p1 .put-word .ensures)))
+    ∙ sets-columns (now (a .string)) (a .start) (k .c0) (k .c1) (k .c2) (k .c3)
+    ∙ ap (sets (now (a .string)) (a .start)) (split .ensures)
 
 pub put-block-spec : {M : Type 1} → statement M
 put-block-spec =

@@ -14,8 +14,8 @@ returns c =
     let p2 = c .before .before in
     let p1 = p2 .before .before .before .before in
     let a = p1 .before .before .before .args in
-    p2 .put-word2 .ensures ∙ ap (λ (l : List ℕ). sets l (a .o + 4) (bytes 4 (a .v / 4294967296))) (p1 .put-word .ensures)
-    ∙ sets-halves (now (a .s)) (a .o) (a .v)
+    p2 .put-word2 .ensures ∙ ap (λ (l : List ℕ). sets l (a .start + 4) (bytes 4 (a .word / 4294967296))) (p1 .put-word .ensures)
+    ∙ sets-halves (now (a .string)) (a .start) (a .word)
 
 pub put-double-word-spec : {M : Type 1} → statement M
 put-double-word-spec =

@@ -16,8 +16,8 @@ returns c =
     let b1 = b2 .before in
     let b0 = b1 .before in
     let a = b0 .before .before .args in
-    let e : b0 .byte0 .result ∷ b1 .byte1 .result ∷ b2 .byte2 .result ∷ c .byte3 .result ∷ [] ≡ bytes 4 (a .v) = cc in
-    sets-four (now (a .s)) (a .o) _ _ _ _ ∙ ap (sets (now (a .s)) (a .o)) e
+    let e : b0 .byte0 .result ∷ b1 .byte1 .result ∷ b2 .byte2 .result ∷ c .byte3 .result ∷ [] ≡ bytes 4 (a .word) = cc in
+    sets-four (now (a .string)) (a .start) _ _ _ _ ∙ ap (sets (now (a .string)) (a .start)) e
 
 pub put-word-spec : {M : Type 1} → statement M
 put-word-spec =

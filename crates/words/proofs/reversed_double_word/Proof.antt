@@ -8,7 +8,7 @@ use Rattle.words.proofs.reversed_double_word.Tie as tie
 returns : tie.Need-returns
 returns c =
     c .double-word .ensures ∙ ap₂ _++_ (c .before .before .reversed-word .ensures) (c .before .reversed-word2 .ensures)
-    ∙ ap reverse (bytes-halves (c .before .before .before .args .w))
+    ∙ ap reverse (bytes-halves (c .before .before .before .args .word))
 
 pub reversed-double-word-spec : {M : Type 1} → statement M
 reversed-double-word-spec =

@@ -7,7 +7,7 @@ use Rattle.words.proofs.split.Tie as tie
 
 returns : tie.Need-returns
 returns c =
-    let b = c .before .before .before .before .args .b in
+    let b = c .before .before .before .before .args .block in
     ap₂ _++_ (bytes-halves (b .head)) (bytes-halves (b .tail))
 
 pub split-spec : {M : Type 1} → statement M

@@ -6,7 +6,7 @@ use Rattle.words.proofs.word_of.Tie as tie
 returns : tie.Need-returns
 returns c =
     let a = c .args in
-    bytes-of-four (a .a) (a .b) (a .c) (a .d) (search needs) (search needs) (search needs) (search needs)
+    bytes-of-four (a .first) (a .second) (a .third) (a .fourth) (search needs) (search needs) (search needs) (search needs)
 
 pub word-of-spec : {M : Type 1} → statement M
 word-of-spec =

@@ -9,7 +9,7 @@ returns : tie.Need-returns
 unfolding xorBlock
 returns c =
     let a = c .before .before .before .before .args in
-    ap₂ _++_ (bytes-xor 8 (a .p .head) (a .q .head)) (bytes-xor 8 (a .p .tail) (a .q .tail))
+    ap₂ _++_ (bytes-xor 8 (a .left .head) (a .right .head)) (bytes-xor 8 (a .left .tail) (a .right .tail))
 
 pub xored-spec : {M : Type 1} → statement M
 xored-spec =

@@ -14,7 +14,7 @@ constants = 0x01 ∷ 0x02 ∷ 0x04 ∷ 0x08 ∷ 0x10 ∷ 0x20 ∷ 0x40 ∷ 0x80 
 
 returns : tie.Need-returns
 unfolding constants roundConstant zPower xTimes
-returns c = eqb→eq _ _ (every-at isConstant constants tt (c .args .i) (c .pre))
+returns c = eqb→eq _ _ (every-at isConstant constants tt (c .args .index) (c .pre))
 
 pub constant-spec : {M : Type 1} → statement M
 constant-spec =

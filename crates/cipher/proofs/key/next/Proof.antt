@@ -11,9 +11,9 @@ returns : tie.Need-returns
 unfolding nextRoundKey xorWord subWord rotWord
 returns c =
     let start = c .before .before .before .before .before in
-    let k = start .args .k in
+    let k = start .args .key in
     let t = c .before .before .before .before .turned in
-    let b = start .args .b in
+    let b = start .args .constant in
     let w0 = bitXor (k .c0) (bitXor (t .result) b) in
     let w1 = bitXor (k .c1) w0 in
     let w2 = bitXor (k .c2) w1 in

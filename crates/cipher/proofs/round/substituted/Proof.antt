@@ -5,7 +5,7 @@ use Rattle.cipher.proofs.round.substituted.Statement.{statement}
 use Rattle.cipher.proofs.round.substituted.Tie as tie
 
 returns : tie.Need-returns
-returns c = substitution-at (now (c .before .args .t)) (c .before .pre .0) (c .before .args .b) (c .before .pre .1)
+returns c = substitution-at (now (c .before .args .table)) (c .before .pre .0) (c .before .args .byte) (c .before .pre .1)
 
 pub substituted-spec : {M : Type 1} → statement M
 substituted-spec =

@@ -8,7 +8,7 @@ use Rattle.cipher.proofs.round.unmixed.Tie as tie
 returns : tie.Need-returns
 unfolding xorWord
 returns c =
-    word-xor (c .word-of .result) (c .before .before .before .before .before .before .before .before .before .args .k)
+    word-xor (c .word-of .result) (c .before .before .before .before .before .before .before .before .before .args .key)
     (c .word-of .ensures)
     ∙ cc
 

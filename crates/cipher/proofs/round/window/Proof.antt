@@ -9,7 +9,7 @@ use Rattle.cipher.proofs.round.window.Tie as tie
 returns : tie.Need-returns
 returns c =
     let start = c .before .before in
-    c .word-at .ensures ∙ entry-part (now (start .args .t)) (start .pre .0) (start .args .b) (start .args .o) 4 (search needs) (search needs)
+    c .word-at .ensures ∙ entry-part (now (start .args .table)) (start .pre .0) (start .args .byte) (start .args .start) 4 (search needs) (search needs)
 
 pub window-spec : {M : Type 1} → statement M
 window-spec =

@@ -15,8 +15,8 @@ returns c =
     let w2 = d1 .before in
     let w1 = w2 .before in
     let start = w1 .before .before in
-    let m = now (start .args .m) in
-    let o = start .args .o in
+    let m = now (start .args .message) in
+    let o = start .args .start in
     ap₂ _++_
     (d1 .double-word .ensures ∙ ap₂ _++_ (w1 .padded-word .ensures) (w2 .padded-word2 .ensures))
     (c .double-word2 .ensures ∙ ap₂ _++_ (w3 .padded-word3 .ensures) (w4 .padded-word4 .ensures))

@@ -11,15 +11,15 @@ use Rattle.cmac.proofs.message.padded_word.Tie as tie
 returns : tie.Need-returns
 returns c =
     let a = c .before .before .args in
-    let past = padded-past (now (a .m)) in
-    rw (past (a .o) (search needs), past (a .o + 1) (search needs), past (a .o + 2) (search needs), past (a .o + 3) (search needs))
+    let past = padded-past (now (a .message)) in
+    rw (past (a .start) (search needs), past (a .start + 1) (search needs), past (a .start + 2) (search needs), past (a .start + 3) (search needs))
 
 returns-2 : tie.Need-returns-2
 returns-2 c =
     let a = c .before .before .before .before .args in
-    let inside = padded-inside (now (a .m)) in
-    c .word-at .ensures ∙ part-four (now (a .m)) (a .o) (omega arith)
-    ∙ sym (rw (inside (a .o) (omega arith), inside (a .o + 1) (omega arith), inside (a .o + 2) (omega arith), inside (a .o + 3) (omega arith)))
+    let inside = padded-inside (now (a .message)) in
+    c .word-at .ensures ∙ part-four (now (a .message)) (a .start) (omega arith)
+    ∙ sym (rw (inside (a .start) (omega arith), inside (a .start + 1) (omega arith), inside (a .start + 2) (omega arith), inside (a .start + 3) (omega arith)))
 
 returns-3 : tie.Need-returns-3
 returns-3 c = c .word-of .ensures ∙ cc

@@ -19,7 +19,7 @@ returns c =
     let first = put .before .before .before .before in
     let k1 = first .before .before .doubled in
     let tag = first .before .before .before .tag-block in
-    let w = now (first .before .before .before .before .before .before .args .w) in
+    let w = now (first .before .before .before .before .before .before .args .schedule) in
     let e1 : blockOf (k1 .result) ≡ subkey1 (cipherOf w) = k1 .ensures ∙ ap double (tag .ensures ∙ tag-of-zeros w) in
     put .put-block2 .ensures
     ∙ ap (λ (l : List ℕ). sets l 16 (blockOf (k2 .result))) (first .put-block .ensures)

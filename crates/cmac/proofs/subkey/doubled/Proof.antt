@@ -11,7 +11,7 @@ returns c =
     let high = x .before in
     let t = high .before in
     let h = t .before in
-    let b = h .before .args .b in
+    let b = h .before .args .block in
     doubling (b .head) (b .tail)
     (h .reversed-double-word .result) (t .reversed-double-word2 .result) (high .shifted .result) (low .shifted2 .result) (carry .carry .result)
     (x .reversed-double-word3 .result) (c .reversed-double-word4 .result) (search needs) (search needs)

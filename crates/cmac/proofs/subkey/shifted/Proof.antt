@@ -4,7 +4,7 @@ use Rattle.cmac.proofs.subkey.shifted.Statement.{statement}
 use Rattle.cmac.proofs.subkey.shifted.Tie as tie
 
 returns : tie.Need-returns
-returns c = shifted-bytes (c .args .w) (c .args .bit) (c .pre)
+returns c = shifted-bytes (c .args .word) (c .args .bit) (c .pre)
 
 pub shifted-spec : {M : Type 1} → statement M
 shifted-spec =

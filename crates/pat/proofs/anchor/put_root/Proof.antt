@@ -21,8 +21,8 @@ returns : tie.Need-returns
 returns c =
     let put = c .before .before in
     let s = put .before .before .before .before in
-    put .put-double-word .ensures ∙ ap (sets (now (s .args .s)) 24) (put .before .be8 .ensures)
-    ∙ sets-end (now (s .args .s)) (be8 (s .args .t .0)) (s .pre) (length-be 8 (s .args .t .0))
+    put .put-double-word .ensures ∙ ap (sets (now (s .args .bytes)) 24) (put .before .be8 .ensures)
+    ∙ sets-end (now (s .args .bytes)) (be8 (s .args .root .0)) (s .pre) (length-be 8 (s .args .root .0))
 
 pub put-root-spec : {M : Type 1} → statement M
 put-root-spec = tie.close (tie.spec (λ c κs. search needs) (λ c κs. search needs) (λ c. search needs) returns)

@@ -10,7 +10,7 @@ use Rattle.pat.proofs.code.of.Tie as tie
 add-result : tie.Need-add-result
 add-result c =
     let s = c .before .before in
-    omega (arith, number-small (s .args .a), c .before .number .ensures, c .node-of .ensures, s .pre)
+    omega (arith, number-small (s .args .answer), c .before .number .ensures, c .node-of .ensures, s .pre)
 
 returns : tie.Need-returns
 unfolding codeOf

@@ -1,10 +1,9 @@
-use mathlib.Core.Path.{ap, ap₂, _∙_}
+use mathlib.Core.Path.{ap, _∙_}
 use mathlib.Core.List.{List}
 use Prim.Native.Nat.{ℕ}
 use denote.Ref.{now}
-use Rattle.cipher.specs.KeyExpansion.{keyExpansion}
-use Rattle.cmac.specs.Context.{subkeysOf, tagUnder}
-use Rattle.cmac.proofs.Laws.{tag-of-context}
+use Rattle.cmac.specs.Cmac.{cmacOf}
+use Rattle.cmac.proofs.Laws.{tags-of-context}
 use Rattle.probe.proofs.Laws.{copied}
 use borrow.Author.Needs.{needs}
 use Rattle.probe_cmac.proofs.work.tag.Statement.{statement}
@@ -20,9 +19,8 @@ returns c =
     let key = made .before .key-of in
     copy .copy .ensures .1 ∙ copied (tag .tag .result) (now (start .args .out)) (search needs)
     ∙ tag .tag .ensures
-    ∙ ap₂ (λ (w k : List ℕ). tagUnder w k message) (made .context-of .ensures .schedule) (made .context-of .ensures .subkeys)
-    ∙ ap (λ (k : List ℕ). tagUnder (keyExpansion k) (subkeysOf k) message) (key .ensures)
-    ∙ tag-of-context (now (start .args .key)) message
+    ∙ ap (λ (F : List ℕ → List ℕ). F message) (tags-of-context (key .result) (made .context-of .result) (made .context-of .ensures))
+    ∙ ap (λ (k : List ℕ). cmacOf k message) (key .ensures)
 
 pub tag-spec : {M : Type 1} → statement M
 tag-spec =

@@ -1,15 +1,14 @@
 -- After i turns the message has its tag in front i times over.
 use Prim.Native.Nat.{ℕ, _-_, _≤_}
-use mathlib.Core.Path.{_≡_, refl, sym, ap, ap₂, _∙_}
+use mathlib.Core.Path.{_≡_, refl, sym, ap, _∙_}
 use mathlib.Core.List.{List, _++_}
 use denote.Ref.{now}
 use native.Mathlib.Omega.{arith}
 use lib.ListN.{length, drop}
-use Rattle.cipher.specs.KeyExpansion.{keyExpansion}
 use Rattle.words.specs.Words.{blockOf}
 use Rattle.cmac.specs.Cmac.{cmacOf}
-use Rattle.cmac.specs.Context.{subkeysOf, tagUnder}
-use Rattle.cmac.proofs.Laws.{tag-of-context}
+use Rattle.cmac.specs.Context.{tagUnder}
+use Rattle.cmac.proofs.Laws.{tags-of-context}
 use Rattle.probe.specs.Told.{repeated, retagged}
 use Rattle.probe.proofs.Laws.{stored, repeated-more}
 use borrow.Author.Needs.{needs}
@@ -17,11 +16,11 @@ use Rattle.probe_cmac.proofs.work.tag_chain.Statement.{statement}
 use Rattle.probe_cmac.proofs.work.tag_chain.Tie as tie
 
 abbrev Inv-loop : tie.InvT-loop
-Inv-loop key message₀ count t c i₀ message i =
+Inv-loop key message₀ count table context i₀ message i =
     (i ≤ count) × (length message ≡ length message₀) × (message ≡ repeated (retagged key) message₀ i)
 
 abbrev μ-loop : tie.MeasureT-loop
-μ-loop key message₀ count t c i₀ message i = count - i
+μ-loop key message₀ count table context i₀ message i = count - i
 
 loop-holds : tie.Need-loop-holds Inv-loop μ-loop
 unfolding repeated
@@ -32,9 +31,8 @@ tag-made : (c : tie.After-context-of Inv-loop μ-loop) (m : List ℕ) {x : List 
     → x ≡ tagUnder (c .context-of .result .schedule) (c .context-of .result .subkeys) m
     → x ≡ cmacOf (now (c .before .before .before .before .before .before .args .key)) m
 tag-made c m e =
-    e ∙ ap₂ (λ (w k : List ℕ). tagUnder w k m) (c .context-of .ensures .schedule) (c .context-of .ensures .subkeys)
-    ∙ ap (λ (k : List ℕ). tagUnder (keyExpansion k) (subkeysOf k) m) (c .before .key-of .ensures)
-    ∙ tag-of-context _ m
+    e ∙ ap (λ (F : List ℕ → List ℕ). F m) (tags-of-context (c .before .key-of .result) (c .context-of .result) (c .context-of .ensures))
+    ∙ ap (λ (k : List ℕ). cmacOf k m) (c .before .key-of .ensures)
 
 loop-again : tie.Need-loop-again Inv-loop μ-loop
 unfolding retagged

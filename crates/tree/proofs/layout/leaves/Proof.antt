@@ -5,4 +5,4 @@ use Rattle.tree.proofs.layout.leaves.Statement.{statement}
 use Rattle.tree.proofs.layout.leaves.Tie as tie
 
 pub leaves-spec : {M : Type 1} → statement M
-leaves-spec = tie.close (tie.spec (λ c. search needs) (λ c. omega (arith, few-leaves (c .args .n) (c .pre))))
+leaves-spec = tie.close (tie.spec (λ c. search needs) (λ c. omega (arith, few-leaves (c .args .depth) (c .pre))))

@@ -6,14 +6,14 @@ use borrow.Author.Needs.{needs}
 use Rattle.tree.proofs.layout.offset.Statement.{statement}
 use Rattle.tree.proofs.layout.offset.Tie as tie
 
-few : (c : tie.Start) → 2 ^ c .args .n ≤ 65536
-few c = few-leaves (c .args .n) (c .pre .0 .1)
+few : (c : tie.Start) → 2 ^ c .args .depth ≤ 65536
+few c = few-leaves (c .args .depth) (c .pre .0 .1)
 
 returns : tie.Need-returns
-returns c = let a = c .before .before .before .before .args in sym (inner (a .n) (a .u .0) (omega arith) .offset-is)
+returns c = let a = c .before .before .before .before .args in sym (inner (a .depth) (a .node .0) (omega arith) .offset-is)
 
 returns-2 : tie.Need-returns-2
-returns-2 c = let a = c .before .before .before .before .args in omega (arith, leaf (a .n) (a .u .0) (omega arith) .offset-is)
+returns-2 c = let a = c .before .before .before .before .args in omega (arith, leaf (a .depth) (a .node .0) (omega arith) .offset-is)
 
 pub offset-spec : {M : Type 1} → statement M
 offset-spec =

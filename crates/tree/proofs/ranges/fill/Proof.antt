@@ -1,4 +1,4 @@
--- After y turns the ranges of levels 1 to y are stored.
+-- After so many turns the ranges of so many levels are stored.
 use Prim.Native.Nat.{ℕ, _+_, _-_, _*_, _/_, _≤_}
 use mathlib.Core.Path.{_≡_, refl, sym, ap, subst, _∙_}
 use mathlib.Core.List.{List, [], _∷_, _++_}
@@ -15,19 +15,20 @@ use Rattle.tree.proofs.ranges.fill.Statement.{statement}
 use Rattle.tree.proofs.ranges.fill.Tie as tie
 
 abbrev Inv-loop : tie.InvT-loop
-Inv-loop n i s₀ y₀ s y = (y ≤ n) × (s ≡ sets s₀ 0 (encode (rangesTo n (i .0) y)))
+Inv-loop depth index buffer₀ level₀ buffer level =
+    (level ≤ depth) × (buffer ≡ sets buffer₀ 0 (encode (rangesTo depth (index .0) level)))
 
 abbrev μ-loop : tie.MeasureT-loop
-μ-loop n i s₀ y₀ s y = n - y
+μ-loop depth index buffer₀ level₀ buffer level = depth - level
 
-kept : (c : tie.At-loop Inv-loop μ-loop) → length (c .loop .s) ≡ length (now (c .before .before .args .s))
+kept : (c : tie.At-loop Inv-loop μ-loop) → length (c .loop .buffer) ≡ length (now (c .before .before .args .buffer))
 kept c = ap length (c .loop .inv .1) ∙ simp length-sets
 
-on-path : (c : tie.After-node Inv-loop μ-loop) → IsNode (c .before .before .before .before .args .n) (c .node .result .0)
+on-path : (c : tie.After-node Inv-loop μ-loop) → IsNode (c .before .before .before .before .args .depth) (c .node .result .0)
 on-path c =
     let s = c .before .before .before .before in
-    subst (λ (u : ℕ). IsNode (s .args .n) u) (sym (c .node .ensures))
-    (path-node (s .args .n) (s .args .i .0) (s .pre .1 .0) _ (omega arith) (omega arith))
+    subst (λ (u : ℕ). IsNode (s .args .depth) u) (sym (c .node .ensures))
+    (path-node (s .args .depth) (s .args .index .0) (s .pre .1 .0) _ (omega arith) (omega arith))
 
 loop-holds : tie.Need-loop-holds Inv-loop μ-loop
 unfolding rangesTo encode
@@ -53,19 +54,19 @@ loop-again c =
     let u = node .result .0 in (
       search needs,
       p2 .put-node2 .ensures
-          ∙ ap (λ (l : List ℕ). sets l (16 * loop .y + 8) (encode (rangeOf (a .n) u (2 * (u / 2) + 1) ∷ []))) (p1 .put-node .ensures)
-          ∙ ranges-more (a .n) (a .i .0) (now (a .s)) (loop .s) (loop .y) u (loop .inv .1) (node .ensures),
+          ∙ ap (λ (l : List ℕ). sets l (16 * loop .level + 8) (encode (rangeOf (a .depth) u (2 * (u / 2) + 1) ∷ []))) (p1 .put-node .ensures)
+          ∙ ranges-more (a .depth) (a .index .0) (now (a .buffer)) (loop .buffer) (loop .level) u (loop .inv .1) (node .ensures),
     )
 
 returns : tie.Need-returns Inv-loop μ-loop
 returns c =
     let a = c .before .before .before .args in
-    let s = now (a .s) in
-    let x = encode (rangesTo (a .n) (a .i .0) (a .n)) in
-    let y : c .before .loop .y ≡ a .n = omega arith in
-    let k : length x ≡ 16 * a .n = ranges-length (a .n) (a .i .0) (a .n) in
-    let e : 0 + length x ≡ 16 * a .n = omega arith in
-    c .before .loop .inv .1 ∙ ap (λ (y : ℕ). sets s 0 (encode (rangesTo (a .n) (a .i .0) y))) y
+    let s = now (a .buffer) in
+    let x = encode (rangesTo (a .depth) (a .index .0) (a .depth)) in
+    let y : c .before .loop .level ≡ a .depth = omega arith in
+    let k : length x ≡ 16 * a .depth = ranges-length (a .depth) (a .index .0) (a .depth) in
+    let e : 0 + length x ≡ 16 * a .depth = omega arith in
+    c .before .loop .inv .1 ∙ ap (λ (y : ℕ). sets s 0 (encode (rangesTo (a .depth) (a .index .0) y))) y
     ∙ sets-eq x s 0 (omega arith) ∙ ap (λ (m : ℕ). x ++ drop m s) e
 
 pub fill-spec : {M : Type 1} → statement M

@@ -12,21 +12,21 @@ use Rattle.tree.proofs.ranges.put_node.Tie as tie
 small : (c : tie.After-size) → c .before .offset .result + (c .size .result + 16) ≤ 6815696
 small c =
     let s = c .before .before .before in
-    omega (arith, entry-small (s .args .n) (s .args .v .0) (s .pre .0 .1) (s .pre .1 .0))
+    omega (arith, entry-small (s .args .depth) (s .args .node .0) (s .pre .0 .1) (s .pre .1 .0))
 
 returns : tie.Need-returns
 returns c =
     let p = c .before .before in
     let a = p .before .before .before .before .before .before .before .before .args in
-    let r = range-own (a .n) (a .u .0) (a .v .0) (p .before .before .if1 .taken) in
-    p .put-range .ensures ∙ ap (sets (now (a .s)) (a .o)) (encode-one _ _ _ (record { start-is = omega arith; count-is = omega arith }))
+    let r = range-own (a .depth) (a .own .0) (a .node .0) (p .before .before .if1 .taken) in
+    p .put-range .ensures ∙ ap (sets (now (a .buffer)) (a .place)) (encode-one _ _ _ (record { start-is = omega arith; count-is = omega arith }))
 
 returns-2 : tie.Need-returns-2
 returns-2 c =
     let p = c .before .before in
     let a = p .before .before .before .before .before .before .before .before .args in
-    let r = range-other (a .n) (a .u .0) (a .v .0) (p .before .before .if1 .left) in
-    p .put-range2 .ensures ∙ ap (sets (now (a .s)) (a .o)) (encode-one _ _ _ (record { start-is = omega arith; count-is = omega arith }))
+    let r = range-other (a .depth) (a .own .0) (a .node .0) (p .before .before .if1 .left) in
+    p .put-range2 .ensures ∙ ap (sets (now (a .buffer)) (a .place)) (encode-one _ _ _ (record { start-is = omega arith; count-is = omega arith }))
 
 pub put-node-spec : {M : Type 1} → statement M
 put-node-spec =

@@ -16,10 +16,10 @@ returns c =
     let p1 = b2 .before .before .before .before in
     let b1 = p1 .before in
     let a = b1 .before .before .before .args in
-    let s = now (a .s) in
-    p2 .put-word2 .ensures ∙ ap (λ (l : List ℕ). sets l (a .o + 4) (bytes 4 (b2 .be42 .result))) (p1 .put-word .ensures)
-    ∙ sym (sets-append s (a .o) (bytes 4 (b1 .be4 .result)) (bytes 4 (b2 .be42 .result)))
-    ∙ ap₂ (λ (x y : List ℕ). sets s (a .o) (x ++ y)) (b1 .be4 .ensures) (b2 .be42 .ensures)
+    let s = now (a .buffer) in
+    p2 .put-word2 .ensures ∙ ap (λ (l : List ℕ). sets l (a .place + 4) (bytes 4 (b2 .be42 .result))) (p1 .put-word .ensures)
+    ∙ sym (sets-append s (a .place) (bytes 4 (b1 .be4 .result)) (bytes 4 (b2 .be42 .result)))
+    ∙ ap₂ (λ (x y : List ℕ). sets s (a .place) (x ++ y)) (b1 .be4 .ensures) (b2 .be42 .ensures)
 
 pub put-range-spec : {M : Type 1} → statement M
 put-range-spec =

@@ -1,0 +1,120 @@
+// The calls of the tree. Each tests its limits in their order and leaves with the first that fails; what it does then is in `work`.
+mod work;
+
+use tree::Anchor;
+use tree::Answer;
+use tree::BlockIndex;
+use tree::Nonce;
+use tree::Refusal;
+use tree::limits;
+use tree::limits::Test;
+ghost use mathlib.Core.Path.{_≡_};
+ghost use mathlib.Core.List.{[]};
+ghost use Rattle.cmac.specs.Cmac.{cmacOf};
+ghost use Rattle.tree.specs.Calls.{Gives, read, write, check, outcome, format};
+ghost use Rattle.tree.specs.declared.Answer.the-variants.{Refused};
+
+// What a call answers that makes or moves an anchor.
+pub struct Reply {
+    pub answer: Answer,
+    pub anchor: Anchor,
+}
+
+// Makes a card of that depth with every block zero, and its anchor.
+pub fn format(key: [u8; 16], depth: u64, card: &mut [u8]) -> Reply
+    ensures { λ r. ⌜ Gives (format (cmacOf key) key depth (now (card .entry)))
+        (r .answer) (r .anchor) (now (card .exit)) [] ⌝ }
+{
+    let root = Nonce(0);
+    let anchor = Anchor {
+        key: key,
+        depth: depth,
+        root: root,
+    };
+    let Test::Passed = limits::depth(depth) else {
+        return refused(anchor, Refusal::Depth);
+    };
+    let Test::Passed = limits::card_length(depth, card.len()) else {
+        return refused(anchor, Refusal::CardLength);
+    };
+    work::format(anchor, card)
+}
+
+// Reads a block into the buffer, where every tag on its path is right.
+pub fn read(anchor: Anchor, card: &[u8], index: BlockIndex, buffer: &mut [u8]) -> Answer
+    ensures { λ r. ⌜ Gives (outcome (cmacOf (anchor .key)) anchor (now (card .entry)) (read (index .0) (now (buffer .entry))))
+        r anchor (now (card .entry)) (now (buffer .exit)) ⌝ }
+{
+    let first = limits::first(anchor, card.len());
+    let Answer::Whole = first else {
+        return first;
+    };
+    let depth = anchor.depth;
+    let Test::Passed = limits::block_number(depth, index) else {
+        return Answer::Refused(Refusal::BlockNumber);
+    };
+    let Test::Passed = limits::block_length(buffer.len()) else {
+        return Answer::Refused(Refusal::BlockLength);
+    };
+    work::read(anchor, card, index, buffer)
+}
+
+// Makes a block the new one, where the tags of its path and of the siblings are right. The answer has the anchor as it is then, and the
+// range buffer the parts of the card that changed.
+pub fn write(
+    anchor: Anchor,
+    card: &mut [u8],
+    index: BlockIndex,
+    block: &[u8],
+    ranges: &mut [u8],
+) -> Reply
+    ensures { λ r. ⌜ Gives
+        (outcome (cmacOf (anchor .key)) anchor (now (card .entry)) (write (index .0) (now (block .entry)) (now (ranges .entry))))
+        (r .answer) (r .anchor) (now (card .exit)) (now (ranges .exit)) ⌝ }
+{
+    let first = limits::first(anchor, card.len());
+    let Answer::Whole = first else {
+        return Reply {
+            answer: first,
+            anchor: anchor,
+        };
+    };
+    let depth = anchor.depth;
+    let Test::Passed = limits::block_number(depth, index) else {
+        return refused(anchor, Refusal::BlockNumber);
+    };
+    let Test::Passed = limits::block_length(block.len()) else {
+        return refused(anchor, Refusal::BlockLength);
+    };
+    let Test::Passed = limits::range_length(depth, ranges.len()) else {
+        return refused(anchor, Refusal::RangeLength);
+    };
+    let root = anchor.root;
+    let Test::Passed = limits::nonces_spent(depth, root) else {
+        return refused(anchor, Refusal::NoncesSpent);
+    };
+    work::write(anchor, card, index, block, ranges)
+}
+
+// Checks every tag of the card.
+pub fn check(anchor: Anchor, card: &[u8]) -> Answer
+    ensures { λ r. ⌜ Gives (outcome (cmacOf (anchor .key)) anchor (now (card .entry)) check) r anchor (now (card .entry)) [] ⌝ }
+{
+    let first = limits::first(anchor, card.len());
+    let Answer::Whole = first else {
+        return first;
+    };
+    work::check(anchor, card)
+}
+
+// A refusal, with the anchor as it was.
+fn refused(anchor: Anchor, refusal: Refusal) -> Reply
+    ensures { λ r. ⌜ r .answer ≡ Refused refusal ⌝ }
+    ensures { λ r. ⌜ r .anchor ≡ anchor ⌝ }
+{
+    let answer = Answer::Refused(refusal);
+    Reply {
+        answer: answer,
+        anchor: anchor,
+    }
+}

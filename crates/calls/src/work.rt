@@ -1,0 +1,160 @@
+// What each call does once its limits are passed. The context is made once; every check comes before the first byte that changes.
+use crate::Reply;
+use card::stamp;
+use card::walk;
+use tree::Anchor;
+use tree::Answer;
+use tree::BlockIndex;
+use tree::Node;
+use tree::Nonce;
+use tree::layout;
+use tree::ranges;
+ghost use mathlib.Core.Path.{_≡_};
+ghost use mathlib.Core.List.{[]};
+ghost use mathlib.Core.Option.{none};
+ghost use Prim.Native.Nat.{_+_, _^_, _<_};
+ghost use lib.ListN.{length};
+ghost use Rattle.cmac.specs.Cmac.{cmacOf};
+ghost use Rattle.tree.specs.Layout.{IsCard, label};
+ghost use Rattle.tree.specs.Limits.{firstFailing};
+ghost use Rattle.tree.specs.Calls.{Gives, read, write, check, limits, outcome, format};
+
+// Format, with the anchor that it gives.
+pub(crate) fn format(anchor: Anchor, card: &mut [u8]) -> Reply
+    requires { ⌜ IsCard (anchor .depth) (now card) ⌝ }
+    requires { ⌜ anchor .root .0 ≡ 0 ⌝ }
+    ensures { λ r. ⌜ Gives (format (cmacOf (anchor .key)) (anchor .key) (anchor .depth) (now (card .entry)))
+        (r .answer) (r .anchor) (now (card .exit)) [] ⌝ }
+{
+    let depth = anchor.depth;
+    let key = anchor.key;
+    let nonce = anchor.root;
+    let table = cmac::table();
+    let context = cmac::context_of(&table, key);
+    stamp::blank(
+        &table,
+        &context.schedule,
+        &context.subkeys,
+        depth,
+        nonce,
+        card,
+    );
+    Reply {
+        answer: Answer::Whole,
+        anchor: anchor,
+    }
+}
+
+// Read.
+pub(crate) fn read(anchor: Anchor, card: &[u8], index: BlockIndex, buffer: &mut [u8]) -> Answer
+    requires { ⌜ firstFailing (limits anchor (now card) (read (index .0) (now buffer))) ≡ none ⌝ }
+    ensures { λ r. ⌜ Gives (outcome (cmacOf (anchor .key)) anchor (now (card .entry)) (read (index .0) (now (buffer .entry))))
+        r anchor (now (card .entry)) (now (buffer .exit)) ⌝ }
+{
+    let depth = anchor.depth;
+    let key = anchor.key;
+    let root = anchor.root;
+    let table = cmac::table();
+    let context = cmac::context_of(&table, key);
+    let found = walk::path(
+        &table,
+        &context.schedule,
+        &context.subkeys,
+        depth,
+        root,
+        card,
+        index,
+    );
+    let Answer::Whole = found else {
+        return found;
+    };
+    copy_block(depth, card, index, buffer);
+    Answer::Whole
+}
+
+// Copies a block into the buffer.
+fn copy_block(depth: u64, card: &[u8], index: BlockIndex, buffer: &mut [u8])
+    requires { ⌜ IsCard depth (now card) ⌝ }
+    requires { ⌜ index .0 < 2 ^ depth ⌝ }
+    requires { ⌜ length (now buffer) ≡ 64 ⌝ }
+    ensures { λ _. ⌜ now (buffer .exit) ≡ label depth (now (card .entry)) (2 ^ depth + index .0) ⌝ }
+{
+    let start = layout::offset(depth, Node(layout::leaves(depth) + index.0));
+    let end = start + 64;
+    words::put(buffer, 0, &card[start..end]);
+}
+
+// Write.
+pub(crate) fn write(
+    anchor: Anchor,
+    card: &mut [u8],
+    index: BlockIndex,
+    block: &[u8],
+    ranges: &mut [u8],
+) -> Reply
+    requires { ⌜ firstFailing (limits anchor (now card) (write (index .0) (now block) (now ranges))) ≡ none ⌝ }
+    ensures { λ r. ⌜ Gives
+        (outcome (cmacOf (anchor .key)) anchor (now (card .entry)) (write (index .0) (now (block .entry)) (now (ranges .entry))))
+        (r .answer) (r .anchor) (now (card .exit)) (now (ranges .exit)) ⌝ }
+{
+    let depth = anchor.depth;
+    let key = anchor.key;
+    let root = anchor.root;
+    let table = cmac::table();
+    let context = cmac::context_of(&table, key);
+    let found = walk::pairs(
+        &table,
+        &context.schedule,
+        &context.subkeys,
+        depth,
+        root,
+        card,
+        index,
+    );
+    let Answer::Whole = found else {
+        return Reply {
+            answer: found,
+            anchor: anchor,
+        };
+    };
+    stamp::block(
+        &table,
+        &context.schedule,
+        &context.subkeys,
+        depth,
+        root,
+        card,
+        index,
+        block,
+    );
+    ranges::fill(depth, index, ranges);
+    let moved = Anchor {
+        key: key,
+        depth: depth,
+        root: Nonce(root.0 + depth),
+    };
+    Reply {
+        answer: Answer::Whole,
+        anchor: moved,
+    }
+}
+
+// Check.
+pub(crate) fn check(anchor: Anchor, card: &[u8]) -> Answer
+    requires { ⌜ firstFailing (limits anchor (now card) check) ≡ none ⌝ }
+    ensures { λ r. ⌜ Gives (outcome (cmacOf (anchor .key)) anchor (now (card .entry)) check) r anchor (now (card .entry)) [] ⌝ }
+{
+    let depth = anchor.depth;
+    let key = anchor.key;
+    let root = anchor.root;
+    let table = cmac::table();
+    let context = cmac::context_of(&table, key);
+    walk::all(
+        &table,
+        &context.schedule,
+        &context.subkeys,
+        depth,
+        root,
+        card,
+    )
+}
