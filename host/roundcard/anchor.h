@@ -17,8 +17,13 @@ struct anchor {
 
 enum lock { SHARED, EXCLUSIVE };
 
-// Opens the file with a lock, for which it waits. Gives -1 with errno.
-int anchor_lock(const char *path, enum lock lock, struct stat *status);
+// Opens the file with a lock, for which it waits as the request says, and says so after a second.
+// Gives -1 with errno, which is ETIMEDOUT where it waited in vain.
+int anchor_lock(const struct request *request, const char *path, enum lock lock,
+                struct stat *status);
+
+// Reports that error.
+int anchor_lock_failure(const struct request *request, const char *path);
 
 // Waits for the lock and reads the file. Gives 0, or the status of the error it reported.
 int anchor_open(const struct request *request, struct anchor *anchor, enum lock lock);

@@ -43,3 +43,10 @@ void card_close(struct card *card) {
     free(card->bytes);
     close(card->file);
 }
+
+bool is_card_length(off_t length) {
+    for (uint64_t depth = 1; depth <= PAT_MAX_DEPTH; depth++)
+        if (length == (off_t)pat_card_bytes(depth))
+            return true;
+    return false;
+}

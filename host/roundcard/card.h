@@ -26,4 +26,7 @@ bool card_put_ranges(const struct card *card, const uint8_t *ranges, size_t coun
 
 void card_close(struct card *card);
 
+// Whether a card of some depth has this length.
+bool is_card_length(off_t length);
+
 #endif

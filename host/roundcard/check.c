@@ -25,12 +25,9 @@ static int report(const struct request *request, uint64_t depth) {
 
 static int check(const struct request *request, const struct anchor *anchor,
                  const struct card *card) {
+    struct situation situation = situation_of(anchor, card);
     uint64_t answer = pat_check(anchor->bytes, anchor->length, card->bytes, card->length);
-    struct situation situation = {.answer = answer,
-                                  .depth = anchor_depth(anchor),
-                                  .root = anchor_root(anchor),
-                                  .anchor_len = anchor->length,
-                                  .card_len = card->length};
+    situation.answer = answer;
     return answer == 0 ? report(request, situation.depth) : explain_refusal(request, &situation);
 }
 

@@ -2,14 +2,19 @@
 
 #include <errno.h>
 #include <fcntl.h>
+#include <limits.h>
+#include <poll.h>
 #include <stdio.h>
 #include <stdlib.h>
 #include <string.h>
 #include <sys/file.h>
+#include <time.h>
 #include <unistd.h>
 
-// Behind the name of a file while its replacement is being written.
+// Behind the name of a file while its replacement is being written: one that is under a lock, and
+// one that others may be replacing too.
 static const char beside[] = ".roundcard-new";
+static const char beside_unlocked[] = ".roundcard-XXXXXX";
 
 bool same_file(const struct stat *one, const struct stat *other) {
     return one->st_dev == other->st_dev && one->st_ino == other->st_ino;
@@ -48,6 +53,47 @@ bool read_up_to(int file, uint8_t *bytes, size_t limit, size_t *length) {
     return true;
 }
 
+bool read_in_time(int file, uint8_t *bytes, size_t limit, size_t *length, uint64_t seconds) {
+    struct pollfd awaited = {.fd = file, .events = POLLIN};
+    int patience = seconds < INT_MAX / 1000 ? (int)seconds * 1000 : -1;
+    for (*length = 0; *length < limit;) {
+        int ready = poll(&awaited, 1, patience);
+        if (ready == 0) {
+            errno = ETIMEDOUT;
+            return false;
+        }
+        ssize_t count = ready < 0 ? -1 : read(file, bytes + *length, limit - *length);
+        if (count == 0)
+            break;
+        if (count > 0)
+            *length += (size_t)count;
+        else if (errno != EINTR && errno != EAGAIN)
+            return false;
+    }
+    return true;
+}
+
+uint64_t clock_now(void) {
+    struct timespec now;
+    clock_gettime(CLOCK_MONOTONIC, &now);
+    return (uint64_t)now.tv_sec * 1000 + (uint64_t)now.tv_nsec / 1000000;
+}
+
+// A blocking flock could only be ended by a signal, and an alarm may be somebody else's.
+bool lock_until(int file, int operation, uint64_t end) {
+    const struct timespec pause = {.tv_nsec = 5000000};
+    while (flock(file, operation | LOCK_NB) != 0) {
+        if (errno != EWOULDBLOCK && errno != EINTR)
+            return false;
+        if (clock_now() >= end) {
+            errno = ETIMEDOUT;
+            return false;
+        }
+        nanosleep(&pause, NULL);
+    }
+    return true;
+}
+
 bool write_all(int file, const uint8_t *bytes, size_t length) {
     for (size_t done = 0; done < length;) {
         ssize_t count = write(file, bytes + done, length - done);
@@ -81,26 +127,36 @@ static int open_directory_of(const char *path) {
     return file;
 }
 
+// The name beside the path that the bytes go to first.
+static bool name_beside(struct replacement *new, const char *suffix) {
+    size_t length = strlen(new->path) + strlen(suffix) + 1;
+    if ((new->written = malloc(length)) == NULL)
+        return false;
+    snprintf(new->written, length, "%s%s", new->path, suffix);
+    return true;
+}
+
+static bool keep_owner(const struct replacement *new, const struct stat *old) {
+    struct stat made;
+    if (fstat(new->file, &made) != 0)
+        return false;
+    bool owned = made.st_uid == old->st_uid && made.st_gid == old->st_gid;
+    return owned || fchown(new->file, old->st_uid, old->st_gid) == 0;
+}
+
 // The replacement of a file that is there.
 static bool open_beside(struct replacement *new, const char *path, mode_t mode) {
-    struct stat old, made;
+    struct stat old;
     if (stat(path, &old) != 0 || (new->path = realpath(path, NULL)) == NULL)
         return false;
     if (!S_ISREG(old.st_mode)) {
         errno = S_ISDIR(old.st_mode) ? EISDIR : 0;
         return false;
     }
-    size_t length = strlen(new->path) + sizeof beside;
-    if ((new->written = malloc(length)) == NULL)
-        return false;
-    snprintf(new->written, length, "%s%s", new->path, beside);
-    if (unlink(new->written) != 0 && errno != ENOENT)
+    if (!name_beside(new, beside) || (unlink(new->written) != 0 && errno != ENOENT))
         return false;
     new->file = open(new->written, O_WRONLY | O_CREAT | O_EXCL | O_CLOEXEC, mode);
-    if (new->file < 0 || fstat(new->file, &made) != 0)
-        return false;
-    bool owned = made.st_uid == old.st_uid && made.st_gid == old.st_gid;
-    return owned || fchown(new->file, old.st_uid, old.st_gid) == 0;
+    return new->file >= 0 && keep_owner(new, &old);
 }
 
 bool replacement_open(struct replacement *new, const char *path, mode_t mode, bool over) {
@@ -112,7 +168,29 @@ bool replacement_open(struct replacement *new, const char *path, mode_t mode, bo
     } else if (errno != EEXIST || !over || !open_beside(new, path, mode)) {
         return false;
     }
-    if (new->path == NULL || new->written == NULL || flock(new->file, LOCK_EX) != 0)
+    if (new->path == NULL || new->written == NULL)
+        return false;
+    // Somebody who looks into a new file has the lock for a moment.
+    if (!lock_until(new->file, LOCK_EX, clock_now() + 1000))
+        return false;
+    new->directory = open_directory_of(new->path);
+    return new->directory >= 0;
+}
+
+bool replacement_open_unlocked(struct replacement *new, const char *path, const struct stat *old) {
+    *new = (struct replacement){.file = -1, .directory = -1};
+    // What may not be written to is not replaced either.
+    if (old != NULL && faccessat(AT_FDCWD, path, W_OK, AT_EACCESS) != 0)
+        return false;
+    new->path = old == NULL ? strdup(path) : realpath(path, NULL);
+    if (new->path == NULL || !name_beside(new, beside_unlocked))
+        return false;
+    new->file = mkstemp(new->written);
+    if (new->file < 0 || (old != NULL && !keep_owner(new, old)))
+        return false;
+    mode_t mask = umask(0);
+    umask(mask);
+    if (fchmod(new->file, old == NULL ? 0666 & ~mask : old->st_mode & 07777) != 0)
         return false;
     new->directory = open_directory_of(new->path);
     return new->directory >= 0;

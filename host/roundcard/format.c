@@ -2,12 +2,14 @@
 #include "anchor.h"
 #include "commands.h"
 #include "files.h"
+#include "input.h"
 #include "json.h"
 #include "refusal.h"
 #include "report.h"
+#include "signals.h"
+#include "text.h"
 
 #include <errno.h>
-#include <fcntl.h>
 #include <inttypes.h>
 #include <stdio.h>
 #include <stdlib.h>
@@ -37,24 +39,16 @@ static int draw_key(const struct request *request, uint8_t *key) {
 
 static int load_key(const struct request *request, const char *path, uint8_t *key) {
     uint8_t bytes[PAT_KEY_BYTES + 1] = {0};
-    size_t length = 0;
-    struct stat status;
-    int file = open(path, O_RDONLY | O_CLOEXEC);
-    if (file < 0)
-        return system_failure(request, "cannot open the key file %s", path);
-    bool loaded = fstat(file, &status) == 0 && read_up_to(file, bytes, sizeof bytes, &length);
-    int result = 0;
-    if (!loaded)
-        result = system_failure(request, "cannot read the key file %s", path);
-    else if (length != PAT_KEY_BYTES)
-        result = failure(request, STATUS_FILE, "the key file %s has %s than %d bytes", path,
-                         length < PAT_KEY_BYTES ? "fewer" : "more", PAT_KEY_BYTES);
-    else
-        warn_if_open(request, path, &status);
+    struct input input = {.bytes = bytes, .limit = sizeof bytes};
+    int status = input_take(request, "the key file", path, &input);
+    if (status == 0 && input.length != PAT_KEY_BYTES)
+        status = failure(request, STATUS_FILE, "the key file %s has %s than %d bytes", path,
+                         input.length < PAT_KEY_BYTES ? "fewer" : "more", PAT_KEY_BYTES);
+    else if (status == 0)
+        warn_if_open(request, path, &input.status);
     memcpy(key, bytes, PAT_KEY_BYTES);
     explicit_bzero(bytes, sizeof bytes);
-    close(file);
-    return result;
+    return status;
 }
 
 // Lets the library make anchor and card in memory.
@@ -101,8 +95,6 @@ static int put_out(const struct request *request, struct making *m) {
     const char *anchor = request->words[0], *card = request->words[1];
     bool over = request->options[OPTION_FORCE] != NULL;
     struct stat one, other;
-    if (over && (m->lock = anchor_lock(anchor, EXCLUSIVE, &one)) < 0 && errno != ENOENT)
-        return system_failure(request, "cannot open the anchor file %s", anchor);
     if (!replacement_open(&m->new_anchor, anchor, S_IRUSR | S_IWUSR, over))
         return open_error(request, "the anchor file", anchor);
     if (stat(anchor, &one) == 0 && stat(card, &other) == 0 && same_file(&one, &other))
@@ -116,14 +108,51 @@ static int put_out(const struct request *request, struct making *m) {
     return put_in_place(request, m);
 }
 
+// Whether two files that are there have the lengths of a card and of an anchor, in this order.
+static bool swapped(const char *anchor, const char *card) {
+    struct stat one, other;
+    return stat(anchor, &one) == 0 && stat(card, &other) == 0 && is_card_length(one.st_size) &&
+           other.st_size == PAT_ANCHOR_BYTES;
+}
+
+// The same with the lock on an anchor file that is to be replaced, and signals held back.
+static int put_out_undisturbed(const struct request *request, struct making *m) {
+    const char *anchor = request->words[0], *card = request->words[1];
+    struct stat old;
+    sigset_t before;
+    if (request->options[OPTION_FORCE] != NULL) {
+        if (swapped(anchor, card))
+            return failure(request, STATUS_USAGE,
+                           "%s has the length of a card and %s that of an anchor: the two are "
+                           "swapped; give ANCHOR first",
+                           anchor, card);
+        m->lock = anchor_lock(request, anchor, EXCLUSIVE, &old);
+        if (m->lock < 0 && errno != ENOENT)
+            return anchor_lock_failure(request, anchor);
+    }
+    hold_signals(&before);
+    int status = put_out(request, m);
+    replacement_close(&m->new_card);
+    replacement_close(&m->new_anchor);
+    release_signals(&before);
+    return status;
+}
+
+static int finish(const struct request *request) {
+    return finish_after(request, "%s and %s are made", request->words[0], request->words[1]);
+}
+
 static int report(const struct request *request, uint64_t depth) {
     uint64_t blocks = (uint64_t)1 << depth;
     size_t bytes = pat_card_bytes(depth);
     if (request->options[OPTION_JSON] == NULL) {
-        printf("formatted %s: depth %" PRIu64 ", %" PRIu64 " blocks, %zu bytes\n",
-               request->words[1], depth, blocks, bytes);
-        printf("its anchor is %s: it has the key, keep it private\n", request->words[0]);
-        return finish_output(request);
+        printf("formatted ");
+        print_name(request->words[1]);
+        printf(": depth %" PRIu64 ", %" PRIu64 " blocks, %zu bytes\nits anchor is ", depth, blocks,
+               bytes);
+        print_name(request->words[0]);
+        printf(": it has the key, keep it private\n");
+        return finish(request);
     }
     json_open("format", 0);
     json_string("anchor", request->words[0]);
@@ -132,7 +161,7 @@ static int report(const struct request *request, uint64_t depth) {
     json_number("blocks", blocks);
     json_number("card_bytes", bytes);
     json_close();
-    return finish_output(request);
+    return finish(request);
 }
 
 static int run_format(const struct request *request) {
@@ -146,9 +175,7 @@ static int run_format(const struct request *request) {
     m.new_anchor = m.new_card = (struct replacement){.file = -1, .directory = -1};
     int status = make(request, &m, depth);
     if (status == 0)
-        status = put_out(request, &m);
-    replacement_close(&m.new_card);
-    replacement_close(&m.new_anchor);
+        status = put_out_undisturbed(request, &m);
     if (m.lock >= 0)
         close(m.lock);
     explicit_bzero(m.anchor, sizeof m.anchor);
@@ -162,8 +189,8 @@ static const char help[] =
     "Makes a card image with 2^N empty blocks of 64 bytes, and its anchor file.\n"
     "\n"
     "  --depth N        from 1 to 16; the image has 104 * 2^N - 48 bytes\n"
-    "  --key-file FILE  a key of 16 bytes; without it one is drawn from the system's\n"
-    "                   random source\n"
+    "  --key-file FILE  a key of 16 bytes, - for standard input; without it one is drawn\n"
+    "                   from the system's random source\n"
     "  --force          replace files that are there already\n"
     "  --json           report as a JSON object\n"
     "\n"

@@ -11,8 +11,9 @@ static void put_name(const char *name) {
 }
 
 void json_open(const char *command, int status) {
-    printf("{\"command\": \"%s\", \"status\": %d, \"accepted\": %s", command, status,
-           status == 0 ? "true" : "false");
+    const char *quote = command == NULL ? "" : "\"";
+    printf("{\"command\": %s%s%s, \"status\": %d, \"accepted\": %s", quote,
+           command == NULL ? "null" : command, quote, status, status == 0 ? "true" : "false");
 }
 
 void json_number(const char *name, uint64_t number) {
@@ -36,8 +37,8 @@ void json_text(const char *name, const uint8_t *text, size_t length) {
         size_t size = utf8_size(text + k, length - k);
         if (size == 0)
             fputs("\\ufffd", stdout);
-        else if (text[k] < 0x20 || text[k] == 0x7f)
-            printf("\\u%04x", text[k]);
+        else if (is_control(text + k))
+            printf("\\u%04x", text[k + size - 1]);
         else if (text[k] == '"' || text[k] == '\\')
             printf("\\%c", text[k]);
         else
@@ -54,12 +55,21 @@ void json_hex(const char *name, const uint8_t *bytes, size_t length) {
     putchar('"');
 }
 
-void json_ranges(const char *name, const uint8_t *ranges, size_t count) {
+void json_list_open(const char *name) {
     put_name(name);
-    for (size_t k = 0; k < count; k++)
-        printf("%s[%" PRIu32 ", %" PRIu32 "]", k == 0 ? "[" : ", ", pat_range_start(ranges, k),
-               pat_range_length(ranges, k));
+    putchar('[');
+}
+
+void json_list_close(void) {
     putchar(']');
+}
+
+void json_ranges(const char *name, const uint8_t *ranges, size_t count) {
+    json_list_open(name);
+    for (size_t k = 0; k < count; k++)
+        printf("%s[%" PRIu32 ", %" PRIu32 "]", k == 0 ? "" : ", ", pat_range_start(ranges, k),
+               pat_range_length(ranges, k));
+    json_list_close();
 }
 
 void json_close(void) {

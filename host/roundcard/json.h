@@ -5,7 +5,8 @@
 #include <stddef.h>
 #include <stdint.h>
 
-// Starts it with the command, the exit status and whether the call was accepted.
+// Starts it with the command, null where there is none, the exit status and whether the call was
+// accepted.
 void json_open(const char *command, int status);
 
 void json_number(const char *name, uint64_t number);
@@ -18,6 +19,10 @@ void json_string(const char *name, const char *text);
 void json_text(const char *name, const uint8_t *text, size_t length);
 
 void json_hex(const char *name, const uint8_t *bytes, size_t length);
+
+// An array, whose members the caller prints.
+void json_list_open(const char *name);
+void json_list_close(void);
 
 // An array of pairs of start and length.
 void json_ranges(const char *name, const uint8_t *ranges, size_t count);

@@ -1,6 +1,7 @@
 // roundcard: the round store on an anchor file and a card image.
 #include "commands.h"
 #include "report.h"
+#include "signals.h"
 
 #include <fcntl.h>
 #include <stdio.h>
@@ -28,7 +29,8 @@ static const char help[] =
     "CARD    the card image, 104 * 2^depth - 48 bytes. It needs no protection.\n"
     "BLOCK   a block number, from 0 to 2^depth - 1. A block has 64 bytes.\n"
     "\n"
-    "Every command takes --json, and --help for more about it. '--' ends the options.\n"
+    "Every command takes --json, --wait SECONDS for a lock that another process has, and\n"
+    "--help for more about it. '--' ends the options.\n"
     "\n"
     "Exit status: 0 when accepted, else the number of the refusal or a status from 64:\n"
     "\n"
@@ -55,9 +57,20 @@ static const struct command *find(const char *name) {
     return NULL;
 }
 
-static int print(const char *text) {
+// Behind the help of each command.
+static const char common_help[] =
+    "\n"
+    "Every command takes also:\n"
+    "\n"
+    "  --wait SECONDS  wait that long and no longer while another process has the anchor\n"
+    "                  file locked, and for the bytes of a pipe; 0 does not wait. Without\n"
+    "                  it, as long as the lock is held, and 5 seconds for a pipe.\n"
+    "  -h, --help      print this\n";
+
+static int print(const char *text, const char *more) {
     static const struct request none;
     fputs(text, stdout);
+    fputs(more, stdout);
     return finish_output(&none);
 }
 
@@ -66,7 +79,36 @@ static int run(const struct command *command, char **words) {
     int status = parse_request(&request, command, words);
     if (status != 0)
         return status;
-    return request.options[OPTION_HELP] != NULL ? print(command->help) : command->run(&request);
+    return request.options[OPTION_HELP] != NULL ? print(command->help, common_help)
+                                                : command->run(&request);
+}
+
+// The words behind help: none, or one command.
+static int run_help(const struct request *none, char **words) {
+    if (words[0] == NULL)
+        return print(help, "");
+    const struct command *command = find(words[0]);
+    if (command == NULL)
+        return failure(none, STATUS_USAGE, "there is no command %s", words[0]);
+    return words[1] == NULL ? print(command->help, common_help)
+                            : failure(none, STATUS_USAGE, "one word too many: %s", words[1]);
+}
+
+// A line without a command at its start.
+static int run_general(char **words) {
+    const struct request none = {.options[OPTION_JSON] = announces_json(words) ? "" : NULL};
+    const char *first = words[0];
+    if (first == NULL)
+        return failure(&none, STATUS_USAGE, "a command is missing");
+    if (strcmp(first, "--help") == 0 || strcmp(first, "-h") == 0 || strcmp(first, "help") == 0)
+        return run_help(&none, words + 1);
+    if (strcmp(first, "--version") == 0 && words[1] == NULL)
+        return print("roundcard " VERSION "\n", "");
+    if (strcmp(first, "--version") == 0)
+        return failure(&none, STATUS_USAGE, "one word too many: %s", words[1]);
+    if (*first == '-')
+        return failure(&none, STATUS_USAGE, "the command comes first, and then %s", first);
+    return failure(&none, STATUS_USAGE, "there is no command %s", first);
 }
 
 // Where standard input, output or error is closed, no file that is opened later may take its place:
@@ -80,22 +122,9 @@ static bool fill_standard_places(void) {
 }
 
 int main(int count, char **words) {
-    static const struct request none;
     if (!fill_standard_places())
         return STATUS_FILE;
-    if (count < 2)
-        return failure(&none, STATUS_USAGE, "a command is missing");
-    const char *first = words[1];
-    const struct command *command = find(first);
-    if (command != NULL)
-        return run(command, words + 2);
-    if (strcmp(first, "--version") == 0)
-        return print("roundcard " VERSION "\n");
-    if (strcmp(first, "--help") != 0 && strcmp(first, "help") != 0)
-        return failure(&none, STATUS_USAGE, "there is no command %s", first);
-    if (count == 2)
-        return print(help);
-    command = find(words[2]);
-    return command == NULL ? failure(&none, STATUS_USAGE, "there is no command %s", words[2])
-                           : print(command->help);
+    ignore_write_signals();
+    const struct command *command = count < 2 ? NULL : find(words[1]);
+    return command != NULL ? run(command, words + 2) : run_general(words + (count > 0));
 }

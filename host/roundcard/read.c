@@ -2,32 +2,28 @@
 #include "anchor.h"
 #include "card.h"
 #include "commands.h"
-#include "files.h"
 #include "json.h"
+#include "output.h"
 #include "refusal.h"
 #include "report.h"
 #include "text.h"
 
-#include <fcntl.h>
 #include <inttypes.h>
 #include <stdio.h>
+#include <string.h>
 #include <unistd.h>
 
-// Writes the block to a file that is neither the anchor nor the card.
-static int put_in_file(const struct request *request, const struct anchor *anchor,
-                       const struct card *card, const uint8_t *block) {
+// The file that the block goes to, NULL for standard output.
+static const char *output_of(const struct request *request) {
     const char *path = request->options[OPTION_OUTPUT];
-    struct stat there;
-    bool exists = stat(path, &there) == 0;
-    if (exists && (same_file(&there, &anchor->status) || same_file(&there, &card->status)))
-        return failure(request, STATUS_USAGE, "the output %s is the anchor or the card", path);
-    int file = open(path, O_WRONLY | O_CREAT | O_TRUNC | O_CLOEXEC, 0666);
-    if (file < 0)
-        return system_failure(request, "cannot open the output %s", path);
-    bool written = write_all(file, block, PAT_BLOCK_BYTES);
-    if (close(file) == 0 && written)
-        return 0;
-    return system_failure(request, "cannot write the output %s", path);
+    return path == NULL || strcmp(path, "-") == 0 ? NULL : path;
+}
+
+// Sees that all is out, and else says what is in the file.
+static int finish(const struct request *request) {
+    const char *path = output_of(request);
+    return path == NULL ? finish_output(request)
+                        : finish_after(request, "the output %s is written", path);
 }
 
 static int put_json(const struct request *request, uint64_t index, const uint8_t *block) {
@@ -40,7 +36,7 @@ static int put_json(const struct request *request, uint64_t index, const uint8_t
     else
         json_null("text");
     json_close();
-    return finish_output(request);
+    return finish(request);
 }
 
 static int put_text(const struct request *request, uint64_t index, const uint8_t *block) {
@@ -59,7 +55,7 @@ static int put_out(const struct request *request, uint64_t index, const uint8_t 
         return put_json(request, index, block);
     if (request->options[OPTION_TEXT] != NULL)
         return put_text(request, index, block);
-    if (request->options[OPTION_OUTPUT] != NULL)
+    if (output_of(request) != NULL)
         return 0;
     if (request->options[OPTION_HEX] != NULL || isatty(STDOUT_FILENO)) {
         print_hex(block, PAT_BLOCK_BYTES);
@@ -75,16 +71,14 @@ static int read_block(const struct request *request, struct anchor *anchor, stru
     uint8_t block[PAT_BLOCK_BYTES];
     uint64_t answer = pat_read(anchor->bytes, anchor->length, card->bytes, card->length, index,
                                block, sizeof block);
-    struct situation situation = {answer,         anchor_depth(anchor), anchor_root(anchor), index,
-                                  anchor->length, card->length,         sizeof block};
+    struct situation situation = situation_of(anchor, card);
+    situation.answer = answer;
+    situation.index = index;
     if (answer != 0)
         return explain_refusal(request, &situation);
-    if (request->options[OPTION_OUTPUT] != NULL) {
-        int status = put_in_file(request, anchor, card, block);
-        if (status != 0)
-            return status;
-    }
-    return put_out(request, index, block);
+    const char *path = output_of(request);
+    int status = path == NULL ? 0 : output_put(request, path, anchor, card, block, PAT_BLOCK_BYTES);
+    return status == 0 ? put_out(request, index, block) : status;
 }
 
 static int run_read(const struct request *request) {
@@ -116,7 +110,8 @@ static const char help[] =
     "Reads a block, once every tag from the root down to it is right. Its 64 bytes go to\n"
     "standard output as they are, or to a terminal in hex.\n"
     "\n"
-    "  --output FILE  put the 64 bytes into a file; a refused read leaves it alone\n"
+    "  --output FILE  put the 64 bytes into a file, which is replaced whole or left as it\n"
+    "                 is; - is standard output\n"
     "  --text         print the block as text, without the zeros behind it\n"
     "  --hex          print the block as 128 hex digits\n"
     "  --json         report as a JSON object, with the block as \"hex\" and, where it\n"

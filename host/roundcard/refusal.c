@@ -1,11 +1,10 @@
 #include "refusal.h"
-#include "pat.h"
-#include "report.h"
+#include "mend.h"
 
 #include <inttypes.h>
 #include <stdio.h>
 
-enum { LONGEST = 256 };
+enum { LONGEST = 512 };
 
 static const char software[] = "the calling software";
 static const char anchor[] = "the anchor";
@@ -22,6 +21,19 @@ static const struct remedy remedies[] = {
     [PAT_REFUSED_SPENT] = {anchor, "format a card under a new key, and write the rounds there"},
     [PAT_REFUSED_TAG] = {holder, "put back the card as format or the last write left it"},
 };
+
+struct situation situation_of(const struct anchor *anchor_file, const struct card *card) {
+    struct situation situation = {.depth = anchor_depth(anchor_file),
+                                  .root = anchor_root(anchor_file),
+                                  .anchor_len = anchor_file->length,
+                                  .anchor_size = anchor_file->status.st_size,
+                                  .anchor = anchor_file->bytes};
+    if (card != NULL) {
+        situation.card_len = card->length;
+        situation.card = card->bytes;
+    }
+    return situation;
+}
 
 // The blocks under a node.
 static void describe_node(char *text, const struct situation *s) {
@@ -43,10 +55,24 @@ static void describe_length(char *text, const struct situation *s) {
     size_t length = of_anchor ? s->anchor_len : s->block_len;
     size_t right = of_anchor ? PAT_ANCHOR_BYTES : PAT_BLOCK_BYTES;
     const char *what = of_anchor ? "the anchor file" : "the new block";
-    if (length > right)
+    if (of_anchor && is_card_length(s->anchor_size))
+        snprintf(text, LONGEST, "the anchor file has %lld bytes, as a card image has%s",
+                 (long long)s->anchor_size,
+                 s->card_len == PAT_ANCHOR_BYTES
+                     ? ", and the card image has 32, as an anchor file has"
+                     : "");
+    else if (length > right)
         snprintf(text, LONGEST, "%s has more than %zu bytes", what, right);
     else
         snprintf(text, LONGEST, "%s has %zu bytes, and not %zu", what, length, right);
+}
+
+static void advise_on_length(char *text, const struct situation *s) {
+    if (s->anchor_len != PAT_ANCHOR_BYTES && is_card_length(s->anchor_size))
+        snprintf(text, LONGEST, "%sgive ANCHOR first, and CARD behind it",
+                 s->card_len == PAT_ANCHOR_BYTES ? "the two are swapped: " : "");
+    else
+        snprintf(text, LONGEST, "%s", remedies[PAT_REFUSED_LENGTH].advice);
 }
 
 static void describe_card(char *text, const struct situation *s) {
@@ -90,41 +116,74 @@ static void describe(char *text, const struct situation *s) {
     }
 }
 
-// More on a wrong tag: a block alone can be replaced, and both children of the root change with
-// every write.
-static void advise_on_tag(char *text, const struct situation *s) {
-    uint64_t node = pat_node(s->answer), leaves = (uint64_t)1 << s->depth;
-    const char *plain = remedies[PAT_REFUSED_TAG].advice;
-    if (node >= leaves)
-        snprintf(text, LONGEST, "%s, or write block %" PRIu64 " again", plain, node - leaves);
-    else if (node < 4)
-        snprintf(text, LONGEST, "%s; a card of another time than its anchor is refused here",
-                 plain);
-    else
-        snprintf(text, LONGEST, "%s", plain);
+static const char anew[] = "format another card with a new key and write the rounds there";
+
+// Both children of the root change with every write.
+static const char *remark(uint64_t node) {
+    return node < 4 ? " (a card of another time than its anchor is refused here)" : "";
 }
 
-// Whether the library can have given the answer: a node with 8 alone, and 4 and 8 at a good depth.
-static bool possible(const struct situation *s) {
+// More on the wrong tag of a block: it can be replaced where a write of it is accepted.
+static void advise_on_block(char *text, const struct situation *s, uint64_t node) {
+    const char *plain = remedies[PAT_REFUSED_TAG].advice;
+    uint64_t index = node - ((uint64_t)1 << s->depth), hindrance = write_refused_at(s, index);
+    if (hindrance == 0 && s->writes)
+        snprintf(text, LONGEST, "%s, or write block %" PRIu64 " first and then block %" PRIu64,
+                 plain, index, s->index);
+    else if (hindrance == 0)
+        snprintf(text, LONGEST, "%s, or write block %" PRIu64 " again", plain, index);
+    else if (hindrance == (node ^ 1))
+        snprintf(text, LONGEST,
+                 "%s%s; no write mends blocks %" PRIu64 " and %" PRIu64
+                 ", since each needs the other one right: else %s",
+                 plain, remark(node), index & ~(uint64_t)1, index | 1, anew);
+    else
+        snprintf(text, LONGEST,
+                 "%s; no write mends block %" PRIu64 ", since node %" PRIu64
+                 " is wrong too: else %s",
+                 plain, index, hindrance, anew);
+}
+
+// More on a wrong tag. No write makes a node above the blocks right.
+static void advise_on_tag(char *text, const struct situation *s) {
+    uint64_t node = pat_node(s->answer);
+    if (node >> s->depth != 0)
+        advise_on_block(text, s, node);
+    else
+        snprintf(text, LONGEST, "%s%s; no write mends it: else %s",
+                 remedies[PAT_REFUSED_TAG].advice, remark(node), anew);
+}
+
+// Whether the library can have given the answer: a node with 8 alone, and one that the card has,
+// and 4 and 8 at a good depth.
+bool possible_answer(const struct situation *s) {
     unsigned number = pat_refusal(s->answer);
+    uint64_t node = pat_node(s->answer);
     if (number == 0 || number >= sizeof remedies / sizeof *remedies)
         return false;
-    bool deep = number == PAT_REFUSED_BLOCK_NUMBER || number == PAT_REFUSED_TAG;
-    return (number == PAT_REFUSED_TAG) == (pat_node(s->answer) != 0) &&
-           (!deep || pat_card_bytes(s->depth) != 0);
+    if (number != PAT_REFUSED_TAG && node != 0)
+        return false;
+    if (number == PAT_REFUSED_BLOCK_NUMBER || number == PAT_REFUSED_TAG) {
+        if (pat_card_bytes(s->depth) == 0)
+            return false;
+        return number != PAT_REFUSED_TAG || (node >= 2 && node >> s->depth < 2);
+    }
+    return true;
 }
 
 int explain_refusal(const struct request *request, const struct situation *s) {
-    if (!possible(s))
+    if (!possible_answer(s))
         return failure(request, STATUS_LIBRARY, "the library gave an unknown answer, %" PRIu64,
                        s->answer);
     unsigned number = pat_refusal(s->answer);
     char meaning[LONGEST], advice[LONGEST];
-    struct remedy remedy = remedies[number];
+    struct remedy remedy = {remedies[number].who, advice};
     describe(meaning, s);
-    if (number == PAT_REFUSED_TAG) {
+    if (number == PAT_REFUSED_TAG)
         advise_on_tag(advice, s);
-        remedy.advice = advice;
-    }
-    return refusal_failure(request, s->answer, meaning, &remedy);
+    else if (number == PAT_REFUSED_LENGTH)
+        advise_on_length(advice, s);
+    else
+        remedy.advice = remedies[number].advice;
+    return refusal_failure(request, s->answer, meaning, &remedy, &s->details);
 }

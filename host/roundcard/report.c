@@ -1,36 +1,49 @@
 #include "report.h"
 #include "json.h"
 #include "pat.h"
+#include "text.h"
 
 #include <errno.h>
 #include <stdarg.h>
 #include <stdio.h>
 #include <string.h>
 
-enum { LONGEST_MESSAGE = 8192 };
+enum { LONGEST_MESSAGE = 16384, LONGEST_REASON = 256 };
 
 static const char *name_of(const struct request *request) {
     return request->command == NULL ? "" : request->command->name;
 }
 
-static void say(const struct request *request, const char *message) {
+// One line on standard error, whatever is in the names of files.
+static void say(const struct request *request, const char *prefix, const char *message) {
     const char *name = name_of(request);
-    fprintf(stderr, "roundcard%s%s: %s\n", *name == '\0' ? "" : " ", name, message);
+    char shown[4 * LONGEST_MESSAGE];
+    escape(shown, sizeof shown, message);
+    fprintf(stderr, "roundcard%s%s: %s%s\n", *name == '\0' ? "" : " ", name, prefix, shown);
+}
+
+static void open_object(const struct request *request, int status) {
+    json_open(request->command == NULL ? NULL : request->command->name, status);
 }
 
 static int tell(const struct request *request, int status, const char *message) {
     const char *name = name_of(request);
-    if (request->options[OPTION_JSON] == NULL) {
-        say(request, message);
-        if (status == STATUS_USAGE)
-            fprintf(stderr, "'roundcard %s%s--help' says what it takes\n", name,
-                    *name == '\0' ? "" : " ");
-        return status;
+    if (request->options[OPTION_JSON] != NULL) {
+        char shown[4 * LONGEST_MESSAGE];
+        escape(shown, sizeof shown, message);
+        open_object(request, status);
+        json_string("message", shown);
+        json_close();
+        if (finish_output(request) == 0)
+            return status;
+        say(request, "", message);
+        return STATUS_FILE;
     }
-    json_open(name, status);
-    json_string("message", message);
-    json_close();
-    return finish_output(request) == 0 ? status : STATUS_FILE;
+    say(request, "", message);
+    if (status == STATUS_USAGE)
+        fprintf(stderr, "'roundcard %s%s--help' says what it takes\n", name,
+                *name == '\0' ? "" : " ");
+    return status;
 }
 
 int failure(const struct request *request, int status, const char *format, ...) {
@@ -44,7 +57,7 @@ int failure(const struct request *request, int status, const char *format, ...) 
 
 int system_failure(const struct request *request, const char *format, ...) {
     const char *reason = errno == 0 ? "not a regular file" : strerror(errno);
-    char message[LONGEST_MESSAGE];
+    char message[LONGEST_MESSAGE - LONGEST_REASON];
     va_list values;
     va_start(values, format);
     vsnprintf(message, sizeof message, format, values);
@@ -53,36 +66,69 @@ int system_failure(const struct request *request, const char *format, ...) {
 }
 
 void warning(const struct request *request, const char *format, ...) {
+    char message[LONGEST_MESSAGE];
     va_list values;
     va_start(values, format);
-    fprintf(stderr, "roundcard %s: warning: ", name_of(request));
-    vfprintf(stderr, format, values);
-    fputc('\n', stderr);
+    vsnprintf(message, sizeof message, format, values);
     va_end(values);
+    say(request, "warning: ", message);
+}
+
+void notice(const struct request *request, const char *format, ...) {
+    char message[LONGEST_MESSAGE];
+    va_list values;
+    va_start(values, format);
+    vsnprintf(message, sizeof message, format, values);
+    va_end(values);
+    say(request, "", message);
+}
+
+static void say_refusal(const struct request *request, int number, const char *meaning,
+                        const struct remedy *remedy) {
+    fprintf(stderr, "roundcard %s: refused, %d: %s\n", name_of(request), number, meaning);
+    fprintf(stderr, "%s can mend it: %s\n", remedy->who, remedy->advice);
 }
 
 int refusal_failure(const struct request *request, uint64_t answer, const char *meaning,
-                    const struct remedy *remedy) {
+                    const struct remedy *remedy, const struct details *details) {
     int number = (int)pat_refusal(answer);
     if (request->options[OPTION_JSON] == NULL) {
-        fprintf(stderr, "roundcard %s: refused, %d: %s\n", name_of(request), number, meaning);
-        fprintf(stderr, "%s can mend it: %s\n", remedy->who, remedy->advice);
+        say_refusal(request, number, meaning, remedy);
         return number;
     }
-    json_open(name_of(request), number);
+    open_object(request, number);
     json_number("refusal", (uint64_t)number);
     if (pat_node(answer) != 0)
         json_number("node", pat_node(answer));
     json_string("message", meaning);
     json_string("who", remedy->who);
     json_string("advice", remedy->advice);
+    if (details->put != NULL)
+        details->put(details->what);
     json_close();
-    return finish_output(request) == 0 ? number : STATUS_FILE;
+    if (finish_output(request) == 0)
+        return number;
+    say_refusal(request, number, meaning, remedy);
+    return STATUS_FILE;
 }
 
 int finish_output(const struct request *request) {
-    if (fflush(stdout) == 0 && !ferror(stdout))
+    return finish_after(request, "%s", "");
+}
+
+int finish_after(const struct request *request, const char *format, ...) {
+    errno = 0;
+    bool flushed = fflush(stdout) == 0;
+    if (flushed && !ferror(stdout))
         return 0;
-    say(request, "cannot write to standard output");
+    const char *reason = flushed || errno == 0 ? NULL : strerror(errno);
+    char done[LONGEST_MESSAGE - LONGEST_REASON], message[LONGEST_MESSAGE];
+    va_list values;
+    va_start(values, format);
+    vsnprintf(done, sizeof done, format, values);
+    va_end(values);
+    snprintf(message, sizeof message, "%s%scannot write to standard output%s%s", done,
+             *done == '\0' ? "" : "; ", reason == NULL ? "" : ": ", reason == NULL ? "" : reason);
+    say(request, "", message);
     return STATUS_FILE;
 }

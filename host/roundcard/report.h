@@ -28,13 +28,23 @@ struct remedy {
     const char *advice;
 };
 
-int refusal_failure(const struct request *request, uint64_t answer, const char *meaning,
-                    const struct remedy *remedy);
+// More of what a JSON object says of a refusal.
+struct details {
+    void (*put)(const void *what);
+    const void *what;
+};
 
-// A word on standard error; the command goes on.
+int refusal_failure(const struct request *request, uint64_t answer, const char *meaning,
+                    const struct remedy *remedy, const struct details *details);
+
+// A word on standard error, of something wrong or of the command's progress; the command goes on.
 void warning(const struct request *request, const char *format, ...) PRINTF(2, 3);
+void notice(const struct request *request, const char *format, ...) PRINTF(2, 3);
 
 // Sees that all output is out. Gives 0 or the status of the error it reported.
 int finish_output(const struct request *request);
+
+// The same after a change that stands, which the error then says.
+int finish_after(const struct request *request, const char *format, ...) PRINTF(2, 3);
 
 #endif

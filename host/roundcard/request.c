@@ -22,15 +22,20 @@ bool parse_number(const char *digits, uint64_t *number) {
 // The words of a command, in their order.
 static const char *const word_names[MOST_WORDS] = {"ANCHOR", "CARD", "BLOCK"};
 
-// The command's option that a word names, perhaps with its value behind '='.
+static const struct option_form wait_form = {"--wait", OPTION_WAIT, true};
+
+// Whether a word names the option, perhaps with its value behind '='.
+static bool names(const char *word, const struct option_form *form) {
+    size_t length = strlen(form->name);
+    return strncmp(word, form->name, length) == 0 && (word[length] == '\0' || word[length] == '=');
+}
+
+// The option with a value, or of the command alone, that a word names.
 static const struct option_form *find(const struct command *command, const char *word) {
-    for (size_t k = 0; k < MOST_OPTIONS && command->options[k].name != NULL; k++) {
-        const struct option_form *form = &command->options[k];
-        size_t length = strlen(form->name);
-        if (strncmp(word, form->name, length) == 0 && (word[length] == '\0' || word[length] == '='))
-            return form;
-    }
-    return NULL;
+    for (size_t k = 0; k < MOST_OPTIONS && command->options[k].name != NULL; k++)
+        if (names(word, &command->options[k]))
+            return &command->options[k];
+    return names(word, &wait_form) ? &wait_form : NULL;
 }
 
 // Takes an option and, where it has one, its value; moves on to the last word taken.
@@ -61,24 +66,30 @@ static int take_word(struct request *request, const char *word) {
     return 0;
 }
 
-// Every command has these.
+// Every command has these; they may be repeated.
 static bool take_common(struct request *request, const char *word) {
     if (strcmp(word, "--json") == 0)
         request->options[OPTION_JSON] = "";
-    else if (strcmp(word, "--help") == 0)
+    else if (strcmp(word, "--help") == 0 || strcmp(word, "-h") == 0)
         request->options[OPTION_HELP] = "";
     else
         return false;
     return true;
 }
 
-// Whether --json is among the words, as an option or another's value: errors in them are then told
-// in JSON.
-static bool announces_json(char **words) {
+bool announces_json(char **words) {
     for (; *words != NULL && strcmp(*words, "--") != 0; words++)
         if (strcmp(*words, "--json") == 0)
             return true;
     return false;
+}
+
+static int take_wait(struct request *request) {
+    const char *seconds = request->options[OPTION_WAIT];
+    request->wait = WAIT_FOR_EVER;
+    if (seconds == NULL || parse_number(seconds, &request->wait))
+        return 0;
+    return failure(request, STATUS_USAGE, "--wait %s is not a number of seconds", seconds);
 }
 
 int parse_request(struct request *request, const struct command *command, char **words) {
@@ -101,7 +112,8 @@ int parse_request(struct request *request, const struct command *command, char *
     }
     if (request->options[OPTION_HELP] == NULL && request->word_count < command->fewest_words)
         return failure(request, STATUS_USAGE, "%s is missing", word_names[request->word_count]);
+    int status = take_wait(request);
     if (request->options[OPTION_JSON] != NULL && *request->options[OPTION_JSON] == '?')
         request->options[OPTION_JSON] = NULL;
-    return 0;
+    return status;
 }

@@ -14,6 +14,7 @@ enum option {
     OPTION_OUTPUT,
     OPTION_TEXT,
     OPTION_HEX,
+    OPTION_WAIT,
     OPTION_JSON,
     OPTION_HELP,
     OPTION_COUNT
@@ -42,7 +43,14 @@ struct request {
     const char *words[MOST_WORDS]; // the anchor file, the card image, the block number
     size_t word_count;
     const char *options[OPTION_COUNT]; // its value, "" for one that has none, NULL where not given
+    uint64_t wait;                     // the seconds of --wait
 };
+
+#define WAIT_FOR_EVER UINT64_MAX
+
+// Whether --json is among the words, as an option or another's value: errors in them are then told
+// in JSON.
+bool announces_json(char **words);
 
 // Takes the words after the command's name apart. Gives 0, or the status of the error it reported.
 int parse_request(struct request *request, const struct command *command, char **words);

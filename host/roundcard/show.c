@@ -49,8 +49,7 @@ static int run_show(const struct request *request) {
     int status = anchor_open(request, &anchor, SHARED);
     if (status != 0)
         return status;
-    struct situation situation = {
-        .depth = anchor_depth(&anchor), .root = anchor_root(&anchor), .anchor_len = anchor.length};
+    struct situation situation = situation_of(&anchor, NULL);
     if (with_card) {
         struct card card;
         status = card_open(request, &card, TO_READ);

@@ -2,6 +2,7 @@
 #include "pat.h"
 
 #include <stdio.h>
+#include <string.h>
 
 // The size that a first byte announces.
 static size_t announced(uint8_t first) {
@@ -27,16 +28,46 @@ size_t utf8_size(const uint8_t *bytes, size_t length) {
     return character < least[size] || surrogate || character > 0x10ffff ? 0 : size;
 }
 
-static bool is_control(const uint8_t *character) {
+bool is_control(const uint8_t *character) {
     if (character[0] == 0xc2)
         return character[1] < 0xa0;
-    return (*character < 0x20 && *character != '\t' && *character != '\n') || *character == 0x7f;
+    return *character < 0x20 || *character == 0x7f;
+}
+
+// One character, or a byte that is none, as it is shown.
+static void escape_one(char *shown, size_t limit, const uint8_t *character, size_t size) {
+    if (*character == '\n' || *character == '\t')
+        snprintf(shown, limit, "\\%c", *character == '\n' ? 'n' : 't');
+    else if (*character == '\\')
+        snprintf(shown, limit, "\\\\");
+    else if (size == 0 || (size == 1 && is_control(character)))
+        snprintf(shown, limit, "\\x%02x", *character);
+    else if (is_control(character))
+        snprintf(shown, limit, "\\x%02x\\x%02x", character[0], character[1]);
+    else
+        snprintf(shown, limit, "%.*s", (int)size, (const char *)character);
+}
+
+void escape(char *shown, size_t limit, const char *text) {
+    const uint8_t *bytes = (const uint8_t *)text;
+    size_t length = strlen(text), used = 0;
+    shown[0] = '\0';
+    for (size_t k = 0; k < length;) {
+        char one[16];
+        size_t size = utf8_size(bytes + k, length - k);
+        escape_one(one, sizeof one, bytes + k, size);
+        if (used + strlen(one) >= limit)
+            return;
+        used += (size_t)snprintf(shown + used, limit - used, "%s", one);
+        k += size == 0 ? 1 : size;
+    }
 }
 
 bool is_text(const uint8_t *bytes, size_t length) {
     for (size_t k = 0; k < length;) {
         size_t size = utf8_size(bytes + k, length - k);
-        if (size == 0 || is_control(bytes + k))
+        bool layout = bytes[k] == '\t' || bytes[k] == '\n';
+        if (size == 0 || (!layout && is_control(bytes + k)))
             return false;
         k += size;
     }
@@ -48,6 +79,12 @@ size_t unpadded(const uint8_t *block) {
     while (length > 0 && block[length - 1] == 0)
         length--;
     return length;
+}
+
+void print_name(const char *name) {
+    char shown[LONGEST_SHOWN];
+    escape(shown, sizeof shown, name);
+    fputs(shown, stdout);
 }
 
 void print_hex(const uint8_t *bytes, size_t length) {

@@ -3,62 +3,101 @@
 #include "card.h"
 #include "commands.h"
 #include "files.h"
+#include "input.h"
 #include "json.h"
 #include "refusal.h"
 #include "report.h"
+#include "signals.h"
 #include "text.h"
 
-#include <fcntl.h>
+#include <errno.h>
 #include <inttypes.h>
-#include <signal.h>
 #include <stdio.h>
 #include <string.h>
-#include <unistd.h>
+#include <sys/resource.h>
 
-// The new block, and one byte more by which a longer one is known.
-struct input {
-    uint8_t bytes[PAT_BLOCK_BYTES + 1];
+// The new block, and by how much a longer one, or a text with a newline behind it, is known.
+struct new_block {
+    uint8_t bytes[PAT_BLOCK_BYTES + 2];
     size_t length;
 };
 
-static int take_text(const struct request *request, struct input *input) {
+static int take_bytes(const struct request *request, const char *path, struct new_block *new,
+                      size_t limit) {
+    struct input input = {.bytes = new->bytes, .limit = limit};
+    int status = input_take(request, "the input", path, &input);
+    new->length = input.length;
+    return status;
+}
+
+static int refuse_text(const struct request *request, const char *how_many) {
+    return failure(request, STATUS_USAGE, "the text has %s bytes, and a block has %d", how_many,
+                   PAT_BLOCK_BYTES);
+}
+
+// A text of standard input, without the newline that ends its last line.
+static int take_piped_text(const struct request *request, struct new_block *new) {
+    int status = take_bytes(request, NULL, new, sizeof new->bytes);
+    if (status != 0)
+        return status;
+    if (new->length > 0 && new->bytes[new->length - 1] == '\n')
+        new->bytes[--new->length] = 0;
+    return new->length > PAT_BLOCK_BYTES ? refuse_text(request, "more than 64") : 0;
+}
+
+static int take_given_text(const struct request *request, struct new_block *new) {
     const char *text = request->options[OPTION_TEXT];
-    size_t length = strlen(text);
-    if (length > PAT_BLOCK_BYTES)
-        return failure(request, STATUS_USAGE, "the text has %zu bytes, and a block has %d", length,
-                       PAT_BLOCK_BYTES);
-    if (!is_text((const uint8_t *)text, length))
-        return failure(request, STATUS_USAGE, "the text is not UTF-8, or has control characters");
-    memcpy(input->bytes, text, length);
-    input->length = PAT_BLOCK_BYTES;
+    char length[32];
+    new->length = strlen(text);
+    snprintf(length, sizeof length, "%zu", new->length);
+    if (new->length > PAT_BLOCK_BYTES)
+        return refuse_text(request, length);
+    memcpy(new->bytes, text, new->length);
     return 0;
 }
 
-static int take_input(const struct request *request, struct input *input) {
-    const char *path = request->options[OPTION_INPUT];
-    *input = (struct input){.length = 0};
+static int take_text(const struct request *request, struct new_block *new) {
+    bool piped = strcmp(request->options[OPTION_TEXT], "-") == 0;
+    int status = piped ? take_piped_text(request, new) : take_given_text(request, new);
+    if (status != 0)
+        return status;
+    if (!is_text(new->bytes, new->length))
+        return failure(request, STATUS_USAGE, "the text is not UTF-8, or has control characters");
+    new->length = PAT_BLOCK_BYTES;
+    return 0;
+}
+
+static int take_input(const struct request *request, struct new_block *new) {
+    *new = (struct new_block){.length = 0};
     if (request->options[OPTION_TEXT] != NULL)
-        return take_text(request, input);
-    int file = path == NULL ? STDIN_FILENO : open(path, O_RDONLY | O_CLOEXEC);
-    if (file < 0)
-        return system_failure(request, "cannot open the input %s", path);
-    bool taken = read_up_to(file, input->bytes, sizeof input->bytes, &input->length);
-    int status =
-        taken ? 0
-              : system_failure(request, "cannot read %s", path == NULL ? "standard input" : path);
-    if (path != NULL)
-        close(file);
-    return status;
+        return take_text(request, new);
+    return take_bytes(request, request->options[OPTION_INPUT], new, PAT_BLOCK_BYTES + 1);
+}
+
+// Whether the card's ranges can be written under the file-size limit: once the anchor is replaced
+// it would be too late to see.
+static bool within_limit(const uint8_t *ranges, size_t count) {
+    struct rlimit limit;
+    uint64_t end =
+        (uint64_t)pat_range_start(ranges, count - 1) + pat_range_length(ranges, count - 1);
+    if (getrlimit(RLIMIT_FSIZE, &limit) != 0 || limit.rlim_cur == RLIM_INFINITY ||
+        end <= limit.rlim_cur)
+        return true;
+    errno = EFBIG;
+    return false;
 }
 
 // The anchor first: once a new tag can be seen on the card, its nonces must not be used again,
 // whatever is cut off.
 static int store(const struct request *request, const struct anchor *anchor,
                  const struct card *card, const uint8_t *ranges) {
-    struct replacement new;
+    struct replacement new = {.file = -1, .directory = -1};
     int status = 0;
-    if (!replacement_open(&new, anchor->path, S_IRUSR | S_IWUSR, true) ||
-        !replacement_fill(&new, anchor->bytes, PAT_ANCHOR_BYTES) || !replacement_commit(&new))
+    if (!within_limit(ranges, 2 * anchor_depth(anchor)))
+        status = system_failure(request, "cannot write the card image %s; nothing is changed",
+                                card->path);
+    else if (!replacement_open(&new, anchor->path, S_IRUSR | S_IWUSR, true) ||
+             !replacement_fill(&new, anchor->bytes, PAT_ANCHOR_BYTES) || !replacement_commit(&new))
         status = system_failure(request, "cannot replace the anchor file %s; nothing is changed",
                                 anchor->path);
     else if (!replacement_sync(&new) || !card_put_ranges(card, ranges, 2 * anchor_depth(anchor)))
@@ -71,19 +110,13 @@ static int store(const struct request *request, const struct anchor *anchor,
     return status;
 }
 
-// The same, with the signals that a user sends held back until both files are out.
+// The same, with signals held back until both files are out.
 static int store_undisturbed(const struct request *request, const struct anchor *anchor,
                              const struct card *card, const uint8_t *ranges) {
-    sigset_t held, before;
-    sigemptyset(&held);
-    sigaddset(&held, SIGINT);
-    sigaddset(&held, SIGTERM);
-    sigaddset(&held, SIGHUP);
-    sigaddset(&held, SIGQUIT);
-    sigaddset(&held, SIGTSTP);
-    sigprocmask(SIG_BLOCK, &held, &before);
+    sigset_t before;
+    hold_signals(&before);
     int status = store(request, anchor, card, ranges);
-    sigprocmask(SIG_SETMASK, &before, NULL);
+    release_signals(&before);
     return status;
 }
 
@@ -94,7 +127,7 @@ static int report(const struct request *request, const struct anchor *anchor, ui
         printf("wrote block %" PRIu64 ": T is %" PRIu64 ", %" PRIu64
                " ranges of the card changed\n",
                index, root, 2 * depth);
-        return finish_output(request);
+        return finish_after(request, "block %" PRIu64 " is written", index);
     }
     json_open("write", 0);
     json_number("block", index);
@@ -102,16 +135,19 @@ static int report(const struct request *request, const struct anchor *anchor, ui
     json_number("writes", root / depth);
     json_ranges("ranges", ranges, 2 * depth);
     json_close();
-    return finish_output(request);
+    return finish_after(request, "block %" PRIu64 " is written", index);
 }
 
 static int write_block(const struct request *request, struct anchor *anchor, struct card *card,
-                       uint64_t index, const struct input *input) {
+                       uint64_t index, const struct new_block *new) {
     uint8_t ranges[PAT_MAX_RANGE_BYTES];
     uint64_t answer = pat_write(anchor->bytes, anchor->length, card->bytes, card->length, index,
-                                input->bytes, input->length, ranges, sizeof ranges);
-    struct situation situation = {answer,         anchor_depth(anchor), anchor_root(anchor), index,
-                                  anchor->length, card->length,         input->length};
+                                new->bytes, new->length, ranges, sizeof ranges);
+    struct situation situation = situation_of(anchor, card);
+    situation.answer = answer;
+    situation.index = index;
+    situation.block_len = new->length;
+    situation.writes = true;
     if (answer != 0)
         return explain_refusal(request, &situation);
     int status = store_undisturbed(request, anchor, card, ranges);
@@ -120,19 +156,19 @@ static int write_block(const struct request *request, struct anchor *anchor, str
 
 static int run_write(const struct request *request) {
     uint64_t index;
-    struct input input;
+    struct new_block new;
     struct anchor anchor;
     struct card card;
     if (request->options[OPTION_INPUT] != NULL && request->options[OPTION_TEXT] != NULL)
         return failure(request, STATUS_USAGE, "only one of --input and --text can be given");
     if (!parse_number(request->words[2], &index))
         return failure(request, STATUS_USAGE, "%s is not a block number", request->words[2]);
-    int status = take_input(request, &input);
+    int status = take_input(request, &new);
     if (status != 0 || (status = anchor_open(request, &anchor, EXCLUSIVE)) != 0)
         return status;
     status = card_open(request, &card, TO_WRITE);
     if (status == 0) {
-        status = write_block(request, &anchor, &card, index, &input);
+        status = write_block(request, &anchor, &card, index, &new);
         card_close(&card);
     }
     anchor_close(&anchor);
@@ -144,8 +180,9 @@ static const char help[] =
     "\n"
     "Writes a block: 64 bytes from a file, from standard input, or text.\n"
     "\n"
-    "  --input FILE  take the 64 bytes from a file\n"
-    "  --text TEXT   take up to 64 bytes of text and put zeros behind it\n"
+    "  --input FILE  take the 64 bytes from a file; - is standard input\n"
+    "  --text TEXT   take up to 64 bytes of text and put zeros behind it; with - the text\n"
+    "                comes from standard input, less the newline that ends it\n"
     "  --json        report as a JSON object, with the ranges of the card that changed\n"
     "\n"
     "The anchor file is replaced whole, then the changed ranges are copied to the card\n"
@@ -153,7 +190,9 @@ static const char help[] =
     "nothing. A cut after it, before all ranges are out, leaves a card that is in part\n"
     "older than its anchor. Nothing false is accepted: a check refuses it with 8, and so\n"
     "does every read whose path meets such a part; with no range out, that is any read.\n"
-    "Where a block is named, write that block again; else format anew with a new key.\n"
+    "The refusal says what helps: to write one block again, or else to put back the card\n"
+    "as it was last left, or to format another one with a new key. All signals that can\n"
+    "be held back wait until both files are out.\n"
     "\n"
     "Refused 5: the anchor file has not 32 bytes. 1: depth. 2: T. 3: card length.\n"
     "4: block number. 5: the block has not 64 bytes. 7: T is used up. 8: a wrong tag\n"

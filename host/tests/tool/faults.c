@@ -2,8 +2,8 @@
 // at a chosen one of them.
 //
 // FAULT_LOG names the file for the list. FAULT is "CALL:COUNT:ACTION": at that call of the name,
-// counted from 1, ACTION "cut" ends the process before it does anything, "term" sends it SIGTERM
-// and goes on, and a number is the errno that the call fails with.
+// counted from 1, ACTION "cut" ends the process before it does anything, "signal" with a number
+// behind it sends that signal and goes on, and a number is the errno that the call fails with.
 #include <errno.h>
 #include <fcntl.h>
 #include <signal.h>
@@ -43,10 +43,15 @@ static int fails(const char *name) {
         return 0;
     if (strcmp(action, ":cut") == 0)
         _exit(99);
-    if (strcmp(action, ":term") == 0)
-        return kill(getpid(), SIGTERM);
+    if (strncmp(action, ":signal", 7) == 0)
+        return kill(getpid(), atoi(action + 7));
     errno = atoi(action + 1);
     return 1;
+}
+
+static const char *last_part(const char *path) {
+    const char *slash = strrchr(path, '/');
+    return slash == NULL ? path : slash + 1;
 }
 
 // The last part of the name of an open file.
@@ -56,8 +61,7 @@ static const char *name_of(int file) {
     snprintf(link, sizeof link, "/proc/self/fd/%d", file);
     ssize_t length = readlink(link, path, sizeof path - 1);
     path[length < 0 ? 0 : length] = '\0';
-    const char *slash = strrchr(path, '/');
-    return slash == NULL ? path : slash + 1;
+    return last_part(path);
 }
 
 int rename(const char *from, const char *to);
@@ -69,7 +73,7 @@ int flock(int file, int operation);
 int rename(const char *from, const char *to) {
     if (fails("rename"))
         return -1;
-    note("rename %s %s\n", strrchr(from, '/') + 1, strrchr(to, '/') + 1);
+    note("rename %s %s\n", last_part(from), last_part(to));
     return (int)syscall(SYS_rename, from, to);
 }
 

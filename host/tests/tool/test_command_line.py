@@ -19,7 +19,7 @@ WORDS = {"format": 2, "read": 3, "write": 3, "check": 2, "show": 2}
 
 class CommandLine(ToolCase):
     def test_general_help(self):
-        for words in (["--help"], ["help"]):
+        for words in (["--help"], ["help"], ["-h"]):
             output = self.accepted(*words).decode()
             for command, options in COMMANDS.items():
                 line = re.search(rf"^  roundcard {command} .*$", output, re.MULTILINE).group()
@@ -32,10 +32,10 @@ class CommandLine(ToolCase):
 
     def test_help_of_each_command(self):
         for command, options in COMMANDS.items():
-            for words in ([command, "--help"], ["help", command], ["--help", command], [command, "x", "--help"]):
+            for words in ([command, "--help"], ["help", command], ["--help", command], [command, "x", "--help"], [command, "-h"], ["-h", command]):
                 output = self.accepted(*words).decode()
                 self.assertTrue(output.startswith(f"usage: roundcard {command} "), words)
-                for option in [*options, "--json"]:
+                for option in [*options, "--json", "--wait SECONDS", "-h, --help"]:
                     self.assertRegex(output, rf"(?m)^  {option}\b")
                 self.assertIn("Refused ", output)
                 self.assertLessEqual(max(map(len, output.splitlines())), 88)
@@ -50,11 +50,17 @@ class CommandLine(ToolCase):
 
     def test_no_such_command(self):
         wrong = [([], "a command is missing"), (["frmat"], "no command frmat"), (["help", "x"], "no command x"), ([""], "no command")]
+        wrong += [(["help", "read", "x"], "too many: x"), (["--version", "x"], "too many: x"), (["--all", "check"], "the command comes first")]
         for words, says in wrong:
             done = self.tool(*words)
             self.assertEqual((done.returncode, done.stdout), (USAGE, b""))
             self.assertIn(says, done.stderr.decode())
             self.assertIn("roundcard --help", done.stderr.decode())
+            told = self.tool(*words, "--json")
+            self.assertEqual((told.returncode, told.stderr), (USAGE, b""))
+            report = json.loads(told.stdout)
+            self.assertEqual((report["command"], report["status"], report["accepted"]), (None, USAGE, False))
+            self.assertIn(says if words else "the command comes first", report["message"])
 
     def test_words_missing_and_too_many(self):
         names = ["ANCHOR", "CARD", "BLOCK"]
@@ -67,7 +73,7 @@ class CommandLine(ToolCase):
 
     def test_unknown_options(self):
         every = {option for options in COMMANDS.values() for option in options}
-        unknown = ["--jsn", "-h", "-", "--jsonx", "--json=1", "--help=1", "--dep", "--depths", "--texts=1", "--hexa", "--forced"]
+        unknown = ["--jsn", "-H", "-", "--waits=1", "--jsonx", "--json=1", "--help=1", "--dep", "--depths", "--texts=1", "--hexa", "--forced"]
         for command, options in COMMANDS.items():
             for option in [*sorted(every - set(options)), *unknown]:
                 self.fails(USAGE, command, "a", option, "c", says=[f"unknown option {option}"])
@@ -77,6 +83,9 @@ class CommandLine(ToolCase):
         self.fails(USAGE, "format", "a", "c", "--force", "--force", says=["--force is given twice"])
         self.fails(USAGE, "format", "a", "c", "--depth", says=["--depth needs a value"])
         self.fails(USAGE, "read", "a", "c", "1", "--hex=yes", says=["--hex takes no value"])
+        self.fails(USAGE, "check", "a", "c", "--wait=1", "--wait=1", says=["--wait is given twice"])
+        for seconds in ("", "x", "-1", "1.5", "18446744073709551616"):
+            self.fails(USAGE, "show", "a", "--wait", seconds, says=["is not a number of seconds"])
 
     def test_json_behind_an_error(self):
         for words in (["read", "--foo", "--json"], ["check", "a", "b", "c", "--json"], ["format", "--json"]):
@@ -88,7 +97,7 @@ class CommandLine(ToolCase):
     def test_answers_that_the_library_does_not_have(self):
         self.made()
         last = self.anchor, self.card
-        for answer in (8, 9, 255, 256, 256 + 3, 2**63, 2**64 - 1):
+        for answer in (8, 9, 255, 256, 256 + 3, 256 + 8, 16 * 256 + 8, 2**63, 2**63 + 8, 2**64 - 1):
             options = {"program": ODD, "env": dict(os.environ, ANSWER=str(answer))}
             self.fails(LIBRARY, "read", *last, "1", says=[f"unknown answer, {answer}"], **options)
             self.fails(LIBRARY, "write", *last, "1", "--text", "x", **options)

@@ -21,9 +21,9 @@ class Cuts(ToolCase):
         self.new = bytes(self.model.bytes), self.model.anchor()
         self.words = "write", "--text", "the new round", self.anchor, self.card, "5"
 
-    def run_with(self, fault, *words):
+    def run_with(self, fault, *words, **options):
         environment = dict(os.environ, LD_PRELOAD=str(FAULTS), FAULT_LOG=str(self.room / "log"), FAULT=fault)
-        return self.tool(*words, env=environment)
+        return self.tool(*words, env=environment, **options)
 
     def both(self):
         return self.card.read_bytes(), self.anchor.read_bytes()
@@ -110,11 +110,60 @@ class Cuts(ToolCase):
             self.assertEqual(self.anchor.read_bytes(), self.new[1])
             self.start_again()
 
-    def test_signals_wait_for_the_card(self):
-        for fault in ("rename:1", "pwrite:1", "pwrite:6", "fsync:3"):
-            self.assertEqual(self.run_with(f"{fault}:term", *self.words).returncode, -signal.SIGTERM)
-            self.assertEqual(self.both(), self.new)
-            self.start_again()
+    def signalled(self, fault, number, *words):
+        """The return code of a run that gets the signal at a step; in a session of its own no signal stops it."""
+        return self.run_with(f"{fault}:signal{number}", *words, start_new_session=True).returncode
+
+    def test_every_signal_waits_for_the_card(self):
+        harmless = {signal.SIGCHLD, signal.SIGCONT, signal.SIGURG, signal.SIGWINCH, signal.SIGTSTP, signal.SIGTTIN, signal.SIGTTOU}
+        harmless |= {signal.SIGXFSZ, signal.SIGPIPE}
+        for number in sorted(signal.valid_signals() - {signal.SIGKILL, signal.SIGSTOP}):
+            for fault in ("rename:1", "pwrite:1"):
+                with self.subTest(signal=number, fault=fault):
+                    self.assertEqual(self.signalled(fault, int(number), *self.words), 0 if number in harmless else -number)
+                    self.assertEqual(self.both(), self.new)
+                    self.start_again()
+
+    def test_signals_at_every_step_wait_for_the_card(self):
+        steps = ["write:1", "fsync:1", "rename:1", "fsync:2", *(f"pwrite:{k}" for k in range(1, 7)), "fsync:3"]
+        for number in (signal.SIGTERM, signal.SIGUSR1, signal.SIGALRM, signal.SIGXCPU):
+            for fault in steps:
+                self.assertEqual(self.signalled(fault, int(number), *self.words), -number)
+                self.assertEqual(self.both(), self.new)
+                self.start_again()
+
+    def test_signals_wait_for_a_format(self):
+        for fault in ("write:1", "write:2", "fsync:3"):
+            self.assertEqual(self.signalled(fault, int(signal.SIGINT), "format", "--depth=1", "a", "c"), -signal.SIGINT)
+            self.accepted("check", "a", "c")
+            for name in ("a", "c"):
+                (self.room / name).unlink()
+
+    def test_signals_wait_for_an_output(self):
+        (self.room / "out").write_bytes(b"kept")
+        words = "read", "--output", "out", self.anchor, self.card, "5"
+        for fault in ("write:1", "fsync:1", "rename:1"):
+            self.assertEqual(self.signalled(fault, int(signal.SIGINT), *words), -signal.SIGINT)
+            self.assertEqual((self.room / "out").read_bytes(), block("the old round"))
+            self.assertEqual({path.name for path in self.room.iterdir()}, {"box.anchor", "box.card", "log", "out"})
+
+    def test_output_is_replaced_whole_or_left(self):
+        output = self.room / "out"
+        output.write_bytes(b"kept")
+        words = "read", "--output", output, self.anchor, self.card, "5"
+        for fault in ("write:1", "fsync:1", "rename:1"):
+            message = self.failing(fault, errno.EIO, *words)
+            self.assertIn("out, which is as it was", message)
+            self.assertEqual(output.read_bytes(), b"kept")
+            self.assertEqual({path.name for path in self.room.iterdir()} - {"log"}, {"box.anchor", "box.card", "out"})
+            self.assertEqual(self.run_with(f"{fault}:cut", *words).returncode, CUT)
+            self.assertEqual(output.read_bytes(), b"kept")
+            left = [path for path in self.room.iterdir() if path.name.startswith("out.roundcard-")]
+            self.assertEqual(len(left), 1)
+            left[0].unlink()
+        output.unlink()
+        self.failing("write:1", errno.ENOSPC, *words)
+        self.assertFalse(output.exists())
 
     def test_keys_are_wiped(self):
         (self.room / "key").write_bytes(bytes(16))

@@ -3,8 +3,7 @@
 import os
 import unittest
 
-from model import entry
-from support import FILE, KEY, Card, ToolCase, block
+from support import FILE, KEY, Card, ToolCase, block, entry
 
 
 class Damage(ToolCase):

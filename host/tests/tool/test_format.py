@@ -2,6 +2,7 @@
 
 import fcntl
 import os
+import resource
 import stat
 import unittest
 
@@ -129,6 +130,39 @@ class Format(ToolCase):
     def test_key_from_a_pipe(self):
         self.accepted(*self.words("--key-file", "/dev/stdin"), input=KEY)
         self.both_equal(Card(KEY, 3))
+
+    def test_key_from_standard_input_by_name(self):
+        self.accepted(*self.words("--key-file", "-"), input=KEY)
+        self.both_equal(Card(KEY, 3))
+
+    def test_force_sees_swapped_files(self):
+        self.made()
+        says = ["box.card has the length of a card", "box.anchor that of an anchor", "swapped"]
+        self.fails(USAGE, "format", "--depth=3", "--force", self.card, self.anchor, says=says)
+        self.anchor.write_bytes(b"something else")
+        self.accepted("format", "--depth=3", "--force", self.card, self.anchor)
+
+    def test_file_size_limit(self):
+        for size in (0, 31, 100, 783):
+            limit = {"preexec_fn": lambda: resource.setrlimit(resource.RLIMIT_FSIZE, (size, size))}
+            self.fails(FILE, *self.words(), says=["cannot write the card image", "File too large"], **limit)
+            self.made(4)
+            self.fails(FILE, *self.words("--force"), says=["cannot write the card image", "File too large"], **limit)
+            self.anchor.unlink()
+            self.card.unlink()
+
+    def test_report_that_cannot_be_printed(self):
+        for form in ([], ["--json"]):
+            with open("/dev/full", "wb") as full:
+                done = self.tool(*self.words("--force", *form), stdout=full)
+            self.assertEqual(done.returncode, FILE)
+            self.assertIn(f"{self.anchor} and {self.card} are made; cannot write", done.stderr.decode())
+            self.accepted("check", self.anchor, self.card)
+
+    def test_report_of_odd_names(self):
+        self.assertIn(b"formatted b\\n\\x1b.c: depth 1", self.accepted("format", "--depth=1", "a", "b\n\033.c"))
+        report = self.report("format", "--force", "--depth=1", "a\n", "b\n\033.c")
+        self.assertEqual((report["anchor"], report["card"]), ("a\n", "b\n\033.c"))
 
     def test_one_file_for_both(self):
         for force in ([], ["--force"]):

@@ -2,9 +2,11 @@
 
 import os
 import pty
+import resource
+import subprocess
 import unittest
 
-from support import DATA, FILE, USAGE, KEY, Card, ToolCase, block
+from support import DATA, FILE, KEY, TOOL, USAGE, Card, ToolCase, block
 
 BINARY = bytes(range(192, 256))
 
@@ -68,6 +70,63 @@ class Read(ToolCase):
         self.assertEqual(report["text"], "van 3: round 12")
         self.assertEqual(output.read_bytes(), block("van 3: round 12"))
 
+    def test_output_keeps_what_it_can(self):
+        output, link = self.room / "out", self.room / "link"
+        words = "read", "--output", link, self.anchor, self.card, "6"
+        output.write_bytes(bytes(1000))
+        output.chmod(0o640)
+        link.symlink_to("out")
+        self.give(output, 1234, 1235)
+        self.accepted(*words)
+        self.assertTrue(link.is_symlink())
+        status = output.stat()
+        self.assertEqual((status.st_uid, status.st_gid, status.st_mode & 0o7777), (1234, 1235, 0o640))
+        self.assertEqual(output.read_bytes(), BINARY)
+        self.assertEqual({path.name for path in self.room.iterdir()}, {"box.anchor", "box.card", "out", "link"})
+        output.unlink()
+        self.fails(FILE, *words, says=["No such file"])
+
+    def test_new_output_has_the_usual_mode(self):
+        for mask in (0o022, 0o077):
+            self.accepted("read", "--output", "out", self.anchor, self.card, "6", umask=mask)
+            self.assertEqual((self.room / "out").stat().st_mode & 0o777, 0o666 & ~mask)
+            (self.room / "out").unlink()
+
+    def test_output_that_may_not_be_written(self):
+        output = self.room / "out"
+        output.write_bytes(b"kept")
+        output.chmod(0o444)
+        words = "read", "--output", output, self.anchor, self.card, "6"
+        options = self.as_nobody()
+        self.fails(FILE, *words, says=["which is as it was", "Permission denied"], **options)
+        output.chmod(0o644)
+        self.room.chmod(0o555)
+        self.fails(FILE, *words, says=["which is as it was", "Permission denied"], **options)
+
+    def test_outputs_at_once(self):
+        output = self.room / "out"
+        words = [[TOOL, "read", "--output", output, self.anchor, self.card, str(5 + k % 2)] for k in range(24)]
+        running = [subprocess.Popen(word) for word in words]
+        self.assertEqual([process.wait(60) for process in running], [0] * 24)
+        self.assertIn(output.read_bytes(), (self.model.block(5), BINARY))
+        self.assertEqual({path.name for path in self.room.iterdir()}, {"box.anchor", "box.card", "out"})
+
+    def test_file_size_limit_of_an_output(self):
+        (self.room / "out").write_bytes(b"kept")
+        limit = {"preexec_fn": lambda: resource.setrlimit(resource.RLIMIT_FSIZE, (10, 10))}
+        words = "read", self.anchor, self.card, "6"
+        self.fails(FILE, *words, "--output", "out", says=["out, which is as it was", "File too large"], **limit)
+        self.fails(FILE, *words, "--output", "new", says=["File too large"], **limit)
+        with open(self.room / "report", "wb") as report:
+            done = self.tool(*words, stdout=report, **limit)
+        self.assertEqual(done.returncode, FILE)
+        self.assertIn(b"cannot write to standard output: File too large", done.stderr)
+
+    def test_output_to_standard_output_by_name(self):
+        self.assertEqual(self.accepted("read", "--output", "-", self.anchor, self.card, "6"), BINARY)
+        self.assertEqual(self.accepted("read", "--output", "/dev/stdout", self.anchor, self.card, "6"), BINARY)
+        self.assertFalse((self.room / "-").exists())
+
     def test_output_that_is_anchor_or_card(self):
         for path in (self.anchor, self.card, "./box.card"):
             self.fails(USAGE, "read", "--output", path, self.anchor, self.card, "5", says=["is the anchor or the card"])
@@ -85,6 +144,13 @@ class Read(ToolCase):
                 done = self.tool(*words, self.anchor, self.card, "5", stdout=full)
             self.assertEqual(done.returncode, FILE)
             self.assertIn(b"cannot write to standard output", done.stderr)
+
+    def test_report_behind_an_output_that_is_written(self):
+        with open("/dev/full", "wb") as full:
+            done = self.tool("read", "--json", "--output", "out", self.anchor, self.card, "6", stdout=full)
+        self.assertEqual(done.returncode, FILE)
+        self.assertIn(b"the output out is written; cannot write to standard output", done.stderr)
+        self.assertEqual((self.room / "out").read_bytes(), BINARY)
 
     def test_terminal_gets_hex(self):
         parent, child = pty.openpty()

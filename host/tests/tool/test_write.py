@@ -2,6 +2,7 @@
 
 import fcntl
 import os
+import resource
 import stat
 import subprocess
 import time
@@ -96,6 +97,73 @@ class Write(ToolCase):
             self.both_equal(self.model)
             self.assertEqual(done.returncode, FILE if 1 in closed else 0)
 
+    def test_text_from_standard_input(self):
+        texts = [(b"van 7\n", "van 7"), (b"van 7", "van 7"), (b"", ""), (b"\n", ""), (b"two\nlines\n\n", "two\nlines\n")]
+        texts += [(b"a" * 64, "a" * 64), (b"a" * 64 + b"\n", "a" * 64), ("é".encode() * 32 + b"\n", "é" * 32), (b"-", "-")]
+        for data, text in texts:
+            self.write(3, "--text", "-", input=data)
+            self.model.write(3, block(text))
+            self.both_equal(self.model)
+        words = "write", self.anchor, self.card, "3", "--text=-"
+        for data in (b"a" * 65, b"a" * 65 + b"\n", b"a" * 64 + b"\n\n", bytes(100000)):
+            self.fails(USAGE, *words, input=data, says=["the text has more than 64 bytes, and a block has 64"])
+        for data in (b"\x1b[2J", b"\xff", b"a\0b", b"a\r\n"):
+            self.fails(USAGE, *words, input=data, says=["not UTF-8, or has control characters"])
+        self.fails(FILE, *words, preexec_fn=lambda: os.close(0), says=["standard input"])
+
+    def test_input_from_standard_input_by_name(self):
+        for words in (["--input", "-"], ["--input", "/dev/stdin"]):
+            self.write(1, *words, input=bytes(range(64)))
+            self.model.write(1, bytes(range(64)))
+            self.both_equal(self.model)
+        self.assertFalse((self.room / "-").exists())
+
+    def test_report_that_cannot_be_printed(self):
+        for form in ([], ["--json"]):
+            reading, writing = os.pipe()
+            os.close(reading)
+            for output, reason in ((os.open("/dev/full", os.O_WRONLY), b"No space left"), (writing, b"Broken pipe")):
+                done = self.tool("write", *form, "--text", "x", self.anchor, self.card, "3", stdout=output)
+                os.close(output)
+                self.assertEqual(done.returncode, FILE)
+                self.assertIn(b"roundcard write: block 3 is written; cannot write to standard output: " + reason, done.stderr)
+                self.model.write(3, block("x"))
+                self.both_equal(self.model)
+
+    def test_failure_whose_object_cannot_be_printed(self):
+        for words, says in ((["9", "--text", "x"], "there is no block 9"), (["3", "--input", "none"], "cannot open the input none")):
+            with open("/dev/full", "wb") as full:
+                done = self.tool("write", "--json", self.anchor, self.card, *words, stdout=full)
+            self.assertEqual(done.returncode, FILE)
+            self.assertIn(says, done.stderr.decode())
+        self.both_equal(self.model)
+
+    def test_file_size_limits(self):
+        def limit(size):
+            return {"preexec_fn": lambda: resource.setrlimit(resource.RLIMIT_FSIZE, (size, size))}
+
+        words = "write", "--text", "x", self.anchor, self.card, "3"
+        for size in (0, 16, 31):
+            self.fails(FILE, *words, says=["nothing is changed", "File too large"], **limit(size))
+        # The anchor would fit and the card would not: seen before the anchor is replaced.
+        for size in (32, 300, 463):
+            self.fails(FILE, *words, says=["cannot write the card image", "nothing is changed", "File too large"], **limit(size))
+        for size in (464, 784):
+            self.accepted(*words, **limit(size))
+            self.model.write(3, block("x"))
+            self.both_equal(self.model)
+
+    def test_swapped_files(self):
+        for words in (["write", "--text", "x", self.card, self.anchor, "1"], ["read", self.card, self.anchor, "1"], ["check", self.card, self.anchor]):
+            says = ["the anchor file has 784 bytes, as a card image has, and the card image has 32", "swapped", "give ANCHOR first"]
+            self.refused(5, *words, says=says)
+            self.assertNotIn("chmod", self.said)
+        self.refused(5, "show", self.card, self.anchor, says=["the two are swapped"])
+        self.refused(5, "show", self.card, says=["as a card image has", "give ANCHOR first"])
+        self.assertNotIn("swapped", self.said)
+        self.refused(5, "check", self.card, self.card, says=["as a card image has"])
+        self.refused(3, "check", self.anchor, self.anchor, says=["has 32 bytes"])
+
     def test_block_numbers(self):
         for index in ("8", "18446744073709551615"):
             self.refused(4, "write", "--text", "x", self.anchor, self.card, index)
@@ -146,14 +214,24 @@ class Write(ToolCase):
         self.assertEqual([path.name for path in folder.iterdir()], ["anchor"])
 
     def test_names_with_odd_characters(self):
-        for name in (b"--odd", b"b\xff\"\\", b"new\nline"):
+        shown = {b"--odd": "--odd", b"b\xff\"\\": 'b\\xff"\\\\', b"new\nline": "new\\nline", b"\x1b[2J\t": "\\x1b[2J\\t", b"\xc2\x9b\xc3\xa9": "\\xc2\\x9bé"}
+        for name, said in shown.items():
             anchor, card = (os.fsdecode(name + part) for part in (b".a", b".c"))
             (self.room / anchor).write_bytes(self.anchor.read_bytes())
             (self.room / anchor).chmod(0o600)
             self.accepted("write", "--text", "x", "--", anchor, self.card, "1")
             self.anchor.write_bytes((self.room / anchor).read_bytes())
-            report = self.fails(FILE, "check", "--", anchor, card) if name[:1] != b"-" else None
-            self.assertTrue(report is None or "No such file" in report["message"])
+            if name[:1] != b"-":
+                report = self.fails(FILE, "check", "--", anchor, card)
+                self.assertEqual(report["message"], f"cannot open the card image {said}.c: No such file or directory")
+                self.assertEqual(self.said, f"roundcard check: {report['message']}\n")
+            (self.room / anchor).chmod(0o644)
+            self.assertIn(f"warning: {said}.a has a key", self.tool("show", "--", anchor).stderr.decode())
+            (self.room / anchor).unlink()
+
+    def test_long_names_leave_the_reason(self):
+        for length in (300, 5000, 100000):
+            self.fails(FILE, "check", self.anchor, "c" * length, says=["File name too long"])
 
     def test_files_that_may_not_be_changed(self):
         words = "write", "--text", "x", self.anchor, self.card, "1"
