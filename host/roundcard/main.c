@@ -21,7 +21,7 @@ static const char help[] =
     "  roundcard format --depth N [--key-file FILE] [--force] ANCHOR CARD\n"
     "  roundcard read   [--output FILE | --text | --hex] ANCHOR CARD BLOCK\n"
     "  roundcard write  [--input FILE | --text TEXT] ANCHOR CARD BLOCK\n"
-    "  roundcard check  ANCHOR CARD\n"
+    "  roundcard check  [--all] [--picture FILE] ANCHOR CARD\n"
     "  roundcard show   ANCHOR [CARD]\n"
     "\n"
     "ANCHOR  a file of 32 bytes: the key, the depth and the root nonce T. It decides which\n"

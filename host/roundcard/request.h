@@ -14,6 +14,8 @@ enum option {
     OPTION_OUTPUT,
     OPTION_TEXT,
     OPTION_HEX,
+    OPTION_ALL,
+    OPTION_PICTURE,
     OPTION_WAIT,
     OPTION_JSON,
     OPTION_HELP,

@@ -11,7 +11,7 @@ COMMANDS = {
     "format": ["--depth", "--key-file", "--force"],
     "read": ["--output", "--text", "--hex"],
     "write": ["--input", "--text"],
-    "check": [],
+    "check": ["--all", "--picture"],
     "show": [],
 }
 WORDS = {"format": 2, "read": 3, "write": 3, "check": 2, "show": 2}
@@ -83,6 +83,7 @@ class CommandLine(ToolCase):
         self.fails(USAGE, "format", "a", "c", "--force", "--force", says=["--force is given twice"])
         self.fails(USAGE, "format", "a", "c", "--depth", says=["--depth needs a value"])
         self.fails(USAGE, "read", "a", "c", "1", "--hex=yes", says=["--hex takes no value"])
+        self.fails(USAGE, "check", "a", "c", "--all", "--all", says=["--all is given twice"])
         self.fails(USAGE, "check", "a", "c", "--wait=1", "--wait=1", says=["--wait is given twice"])
         for seconds in ("", "x", "-1", "1.5", "18446744073709551616"):
             self.fails(USAGE, "show", "a", "--wait", seconds, says=["is not a number of seconds"])
@@ -102,8 +103,20 @@ class CommandLine(ToolCase):
             self.fails(LIBRARY, "read", *last, "1", says=[f"unknown answer, {answer}"], **options)
             self.fails(LIBRARY, "write", *last, "1", "--text", "x", **options)
             self.fails(LIBRARY, "check", *last, **options)
+            self.fails(LIBRARY, "check", "--all", *last, **options)
             self.fails(LIBRARY, "format", "--depth=2", "a", "c", **options)
         self.refused(6, "write", *last, "1", "--text", "x", program=ODD, env=dict(os.environ, ANSWER="6"))
+
+    @unittest.skipUnless(ODD, "the tool over a library that answers anything is tried beside the plain tool alone")
+    def test_reads_and_check_that_do_not_agree(self):
+        self.made()
+        for check, read in ((0, 9 * 256 + 8), (9 * 256 + 8, 0), (2 * 256 + 8, 3 * 256 + 8)):
+            environment = dict(os.environ, ANSWER=str(read), CHECK_ANSWER=str(check))
+            says = [f"contradicts itself: a check answers {check}", f"refused is {read // 256}"]
+            self.fails(LIBRARY, "check", "--all", "--picture", "p", self.anchor, self.card, says=says, program=ODD, env=environment)
+        for read in (1, 4, 5, 6, 7):
+            environment = dict(os.environ, ANSWER=str(read), CHECK_ANSWER="0")
+            self.fails(LIBRARY, "check", "--all", self.anchor, self.card, says=["unknown answer"], program=ODD, env=environment)
 
     def test_json_as_another_options_value(self):
         self.made()

@@ -24,6 +24,7 @@ class Locks(ToolCase):
         yield "read", *last, "1"
         yield "write", "--text", "x", *last, "1"
         yield "check", *last
+        yield "check", "--all", *last
         yield "show", *last
         yield "format", "--force", "--depth=3", *last
 
@@ -138,7 +139,7 @@ class Pipes(ToolCase):
         self.assertEqual((self.room / "c").read_bytes(), bytes(Card(KEY, 3).bytes))
 
     def test_output_to_a_pipe(self):
-        for words in (("read", self.anchor, self.card, "3", "--output"),):
+        for words in (("read", self.anchor, self.card, "3", "--output"), ("check", self.anchor, self.card, "--picture")):
             self.fails(FILE, *words, self.pipe, says=["nobody reads from the output", "pipe"])
         reader = os.open(self.pipe, os.O_RDONLY | os.O_NONBLOCK)
         self.accepted("read", self.anchor, self.card, "3", "--output", self.pipe)
