@@ -67,7 +67,9 @@ said 'node 6'
 run 8 check box.anchor box.card
 said 'node 6'
 
-say 'Blocks whose path does not meet those nodes are still read.'
+say 'Blocks whose path does not meet those nodes are still read; a check of all shows which.'
+run 8 check --all box.anchor box.card
+said '....##..'
 run 0 read --text box.anchor box.card 1
 said 'van 2: round 4, Harbour'
 

@@ -6,6 +6,8 @@ PREFIX ?= /usr/local
 BINDIR ?= $(PREFIX)/bin
 LIBDIR ?= $(PREFIX)/lib
 INCLUDEDIR ?= $(PREFIX)/include
+MANDIR ?= $(PREFIX)/share/man
+COMPLETIONDIR ?= $(PREFIX)/share/bash-completion/completions
 
 HOST_OUT = target/host
 HOST_CC ?= gcc
@@ -18,11 +20,13 @@ TOOL_SOURCES = $(wildcard host/roundcard/*.c)
 TOOL_NEEDS = $(TOOL_SOURCES) $(wildcard host/roundcard/*.h) host/pat.h host/host.mk $(PAT_ARCHIVE)
 TOOL_BUILD = $(HOST_CC) $(HOST_FLAGS) $(HOST_SYSTEM) -DVERSION='"$(PAT_VERSION)"'
 
+MAN_PAGES = $(wildcard host/man/*.1) $(wildcard host/man/*.3)
+
 TEST_SOURCES = $(wildcard host/tests/calls/*.c)
 TEST_NEEDS = $(TEST_SOURCES) $(wildcard host/tests/calls/*.h) host/pat.h host/host.mk $(PAT_ARCHIVE)
 TEST_BUILD = $(HOST_CC) $(HOST_FLAGS) $(HOST_SYSTEM) -g
 
-.PHONY: roundcard demo install host-test host-headers host-symbols host-calls host-trees host-tool host-installed FORCE
+.PHONY: roundcard demo install uninstall host-test host-headers host-symbols host-calls host-trees host-tool host-installed FORCE
 
 roundcard: $(HOST_OUT)/roundcard
 
@@ -68,6 +72,15 @@ install: $(HOST_OUT)/roundcard
 	sed -e 's|@PREFIX@|$(PREFIX)|' -e 's|@LIBDIR@|$(LIBDIR)|' -e 's|@INCLUDEDIR@|$(INCLUDEDIR)|' -e 's|@VERSION@|$(PAT_VERSION)|' \
 	    host/pat.pc.in > $(HOST_OUT)/pat.pc
 	install -m 644 $(HOST_OUT)/pat.pc $(DESTDIR)$(LIBDIR)/pkgconfig/pat.pc
+	install -d $(DESTDIR)$(COMPLETIONDIR) $(DESTDIR)$(MANDIR)/man1 $(DESTDIR)$(MANDIR)/man3
+	install -m 644 host/completion/roundcard $(DESTDIR)$(COMPLETIONDIR)/roundcard
+	for page in $(MAN_PAGES); do install -m 644 $$page $(DESTDIR)$(MANDIR)/man$${page##*.}/ || exit 1; done
+
+# Folders stay: others may use them.
+uninstall:
+	rm -f $(DESTDIR)$(BINDIR)/roundcard $(DESTDIR)$(LIBDIR)/libpat.a $(DESTDIR)$(INCLUDEDIR)/pat.h
+	rm -f $(DESTDIR)$(LIBDIR)/pkgconfig/pat.pc $(DESTDIR)$(COMPLETIONDIR)/roundcard
+	for page in $(MAN_PAGES); do rm -f $(DESTDIR)$(MANDIR)/man$${page##*.}/$${page##*/} || exit 1; done
 
 host-test: host-headers host-symbols host-calls host-trees host-tool host-installed demo
 

@@ -42,13 +42,13 @@ static const char help[] =
     "      new block not 64                        the calling software\n"
     "   7  T is used up                            the anchor: format with a new key\n"
     "   8  the tag of the node named is wrong      whoever has the card\n"
-    "  64  the command line is wrong\n"
+    "  64  the command line is wrong, or the text that is to be written\n"
     "  65  the block that was read is not text\n"
-    "  70  the library gave an unknown answer\n"
-    "  74  a file is missing or cannot be read or written\n"
+    "  70  the library gave an unknown answer, or contradicts itself\n"
+    "  74  a file is missing or locked, or cannot be read or written\n"
     "\n"
     "A refused command, and one that ends with 64, 65 or 70, changes no file; nor does one\n"
-    "that ends with 74, unless it says so or only its report could not be written.\n";
+    "that ends with 74, unless it says so.\n";
 
 static const struct command *find(const char *name) {
     for (size_t k = 0; k < sizeof commands / sizeof *commands; k++)

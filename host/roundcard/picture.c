@@ -4,6 +4,7 @@
 #include <inttypes.h>
 #include <stdio.h>
 #include <stdlib.h>
+#include <string.h>
 
 // Sizes in pixels. A cell leaves a gap to the next one.
 enum { CELL = 12, GAP = 2, LEFT = 64, TOP = 64, LEGEND = 44, RIGHT = 24, LEAST_WIDTH = 420 };
@@ -15,7 +16,7 @@ enum { MOST_RUNS_TOLD = 16 };
 static const char style[] = "<style>\n"
                             "text { font: 12px sans-serif; fill: #222 }\n"
                             ".title { font: bold 16px sans-serif }\n"
-                            ".number { text-anchor: end }\n"
+                            ".number { font-size: 10px; text-anchor: end }\n"
                             ".k0 { fill: #a6c8e8 }\n"
                             ".k1 { fill: #f0a030; stroke: #7a4a00 }\n"
                             ".k2 { fill: #c81e1e; stroke: #5a0000 }\n"
@@ -97,8 +98,9 @@ static void draw(FILE *out, const struct survey *survey, const struct map *map, 
             survey->blocks);
     put_description(out, survey);
     fprintf(out, "%s<rect width=\"%zu\" height=\"%zu\" fill=\"#fff\"/>\n", style, width, height);
+    const char *slash = strrchr(card, '/');
     fprintf(out, "<text class=\"title\" x=\"%d\" y=\"26\">", LEFT);
-    put_name(out, card);
+    put_name(out, slash == NULL ? card : slash + 1);
     fprintf(out, "</text>\n<text x=\"%d\" y=\"48\">%" PRIu64 " of %" PRIu64 " blocks refused; ",
             LEFT, survey->refused, survey->blocks);
     fprintf(out, map->span == 1 ? "a square is a block" : "a square is %" PRIu64 " blocks",

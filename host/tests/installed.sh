@@ -1,5 +1,5 @@
 #!/bin/sh
-# Installs into a folder of its own, and builds and runs the example from there.
+# Installs into a folder of its own, builds and runs the example from there, and uninstalls.
 #   installed.sh ARCHIVE
 set -eu
 archive=$1
@@ -17,14 +17,35 @@ expect() {
     [ "$(stat -c %a "$1")" = "$2" ] || fail "$1 has the mode $(stat -c %a "$1")"
 }
 
-"${MAKE:-make}" --no-print-directory -s install PAT_ARCHIVE="$archive" PREFIX=/opt/pat DESTDIR="$room/root" >"$room/log" 2>&1 ||
-    { cat "$room/log" >&2; fail 'make install'; }
+# run_make TARGET: with the folder as its place.
+run_make() {
+    "${MAKE:-make}" --no-print-directory -s "$1" PAT_ARCHIVE="$archive" PREFIX=/opt/pat DESTDIR="$room/root" >"$room/log" 2>&1 ||
+        { cat "$room/log" >&2; fail "make $1"; }
+}
+
+# Every file and link, in order.
+list() { (cd "$room/root" && find . ! -type d | sort); }
+
 base=$room/root/opt/pat
+# Files of others, of which uninstall must take none.
+for file in bin/roundcard-other lib/libother.a share/man/man1/other.1 share/bash-completion/completions/other; do
+    mkdir -p "$base/${file%/*}"
+    echo mine >"$base/$file"
+done
+others=$(list)
+run_make install
 expect "$base/bin/roundcard" 755
 expect "$base/lib/libpat.a" 644
 expect "$base/include/pat.h" 644
 expect "$base/lib/pkgconfig/pat.pc" 644
-[ "$(find "$room/root" -type f | wc -l)" -eq 4 ] || fail 'something else is installed'
+expect "$base/share/bash-completion/completions/roundcard" 644
+pages=0
+for page in "$here"/../man/*.[13]; do
+    expect "$base/share/man/man${page##*.}/${page##*/}" 644
+    cmp -s "$page" "$base/share/man/man${page##*.}/${page##*/}" || fail "another page ${page##*/}"
+    pages=$((pages + 1))
+done
+[ "$(list | wc -l)" -eq $((4 + 5 + pages)) ] || fail 'something else is installed'
 grep -q '@' "$base/lib/pkgconfig/pat.pc" && fail 'pat.pc has a place left open'
 
 if command -v pkg-config >/dev/null; then
@@ -40,4 +61,16 @@ fi
 "$room/example" >"$room/out" || fail 'the example'
 grep -q 'block 3: van 7: round 12' "$room/out" || fail 'the example reads something else'
 grep -q 'refused 8 at node 7' "$room/out" || fail 'the example is not refused'
-echo 'installed: archive, header, tool and pat.pc; the example builds and runs from there'
+
+if command -v man >/dev/null; then
+    MANPATH="$base/share/man" man roundcard >"$room/page" 2>"$room/log" || fail 'man finds no page'
+    grep -q 'roundcard format' "$room/page" || fail 'the page is another'
+    [ -s "$room/log" ] && fail "man says $(cat "$room/log")"
+else
+    echo 'skipped: man is not here, so the pages are not shown'
+fi
+
+run_make uninstall
+[ "$(list)" = "$others" ] || fail "uninstall leaves or takes something: $(list)"
+run_make uninstall
+echo 'installed: archive, header, tool, pat.pc, man pages and completion; the example builds and runs from there; uninstalled'

@@ -165,7 +165,7 @@ class Picture(ToolCase):
         self.assertEqual(root.find(f"{SVG}title").text, f"Map of the card {self.card}: 3 of 8 blocks refused")
         self.assertEqual(root.find(f"{SVG}desc").text, "Refused: block 1 at node 9; blocks 4 to 5 at node 6.")
         words = [text.text for text in root.iter(f"{SVG}text")]
-        for word in ("3 of 8 blocks refused; a square is a block", "accepted", "refused", "0"):
+        for word in ("box.card", "3 of 8 blocks refused; a square is a block", "accepted", "refused", "0"):
             self.assertIn(word, words)
 
     def test_whole_card_and_without_all(self):

@@ -101,8 +101,10 @@ class Pipes(ToolCase):
 
     def test_nobody_writes(self):
         for words in (self.write, self.format):
-            for seconds in ("0", "1"):
-                self.fails(FILE, *words, "--wait", seconds, says=["nothing came from", "pipe", f"for {seconds} seconds"])
+            self.fails(FILE, *words, "--wait=0", says=["nothing came from", "pipe", "for 0 seconds"])
+        start = time.monotonic()
+        self.assertEqual(self.tool(*self.write, "--wait=1").returncode, FILE)
+        self.assertGreaterEqual(time.monotonic() - start, 1)
 
     def test_nobody_writes_and_no_wait_is_given(self):
         words = [[TOOL, *map(os.fspath, line)] for line in (self.write, self.format)]
@@ -119,9 +121,9 @@ class Pipes(ToolCase):
         held = os.open(self.pipe, os.O_RDWR)
         self.addCleanup(os.close, held)
         for words in (self.write, self.format):
-            self.fails(FILE, *words, "--wait=1", says=["nothing came from"])
+            self.fails(FILE, *words, "--wait=0", says=["nothing came from"])
         os.write(held, bytes(10))
-        self.fails(FILE, *self.write, "--wait=1", says=["nothing came from"])
+        self.fails(FILE, *self.write, "--wait=0", says=["nothing came from"])
 
     def test_block_from_a_pipe(self):
         self.feed(bytes(range(64)), 0.3)
