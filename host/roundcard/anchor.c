@@ -19,7 +19,7 @@ uint64_t anchor_root(const struct anchor *anchor) {
 
 void warn_if_open(const struct request *request, const char *path, const struct stat *status) {
     if (S_ISREG(status->st_mode) && (status->st_mode & (S_IRGRP | S_IROTH)) != 0)
-        warning(request, "%s has a key and can be read by others: chmod 600 it", path);
+        notice(request, "warning: %s has a key and can be read by others: chmod 600 it", path);
 }
 
 // Milliseconds before a command says that it waits.

@@ -15,11 +15,11 @@ static const char *name_of(const struct request *request) {
 }
 
 // One line on standard error, whatever is in the names of files.
-static void say(const struct request *request, const char *prefix, const char *message) {
+static void say(const struct request *request, const char *message) {
     const char *name = name_of(request);
     char shown[4 * LONGEST_MESSAGE];
     escape(shown, sizeof shown, message);
-    fprintf(stderr, "roundcard%s%s: %s%s\n", *name == '\0' ? "" : " ", name, prefix, shown);
+    fprintf(stderr, "roundcard%s%s: %s\n", *name == '\0' ? "" : " ", name, shown);
 }
 
 static void open_object(const struct request *request, int status) {
@@ -36,10 +36,10 @@ static int tell(const struct request *request, int status, const char *message) 
         json_close();
         if (finish_output(request) == 0)
             return status;
-        say(request, "", message);
+        say(request, message);
         return STATUS_FILE;
     }
-    say(request, "", message);
+    say(request, message);
     if (status == STATUS_USAGE)
         fprintf(stderr, "'roundcard %s%s--help' says what it takes\n", name,
                 *name == '\0' ? "" : " ");
@@ -65,22 +65,13 @@ int system_failure(const struct request *request, const char *format, ...) {
     return failure(request, STATUS_FILE, "%s: %s", message, reason);
 }
 
-void warning(const struct request *request, const char *format, ...) {
-    char message[LONGEST_MESSAGE];
-    va_list values;
-    va_start(values, format);
-    vsnprintf(message, sizeof message, format, values);
-    va_end(values);
-    say(request, "warning: ", message);
-}
-
 void notice(const struct request *request, const char *format, ...) {
     char message[LONGEST_MESSAGE];
     va_list values;
     va_start(values, format);
     vsnprintf(message, sizeof message, format, values);
     va_end(values);
-    say(request, "", message);
+    say(request, message);
 }
 
 static void say_refusal(const struct request *request, int number, const char *meaning,
@@ -129,6 +120,6 @@ int finish_after(const struct request *request, const char *format, ...) {
     va_end(values);
     snprintf(message, sizeof message, "%s%scannot write to standard output%s%s", done,
              *done == '\0' ? "" : "; ", reason == NULL ? "" : ": ", reason == NULL ? "" : reason);
-    say(request, "", message);
+    say(request, message);
     return STATUS_FILE;
 }

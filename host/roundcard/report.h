@@ -37,8 +37,7 @@ struct details {
 int refusal_failure(const struct request *request, uint64_t answer, const char *meaning,
                     const struct remedy *remedy, const struct details *details);
 
-// A word on standard error, of something wrong or of the command's progress; the command goes on.
-void warning(const struct request *request, const char *format, ...) PRINTF(2, 3);
+// A word on standard error; the command goes on.
 void notice(const struct request *request, const char *format, ...) PRINTF(2, 3);
 
 // Sees that all output is out. Gives 0 or the status of the error it reported.

@@ -104,7 +104,7 @@ static int store(const struct request *request, const struct anchor *anchor,
         status = system_failure(
             request,
             "the anchor file %s is replaced, but the card image %s could not be written "
-            "whole: a check names the first node that is not right",
+            "whole: 'roundcard check --all' lists the blocks that are refused",
             anchor->path, card->path);
     replacement_close(&new);
     return status;

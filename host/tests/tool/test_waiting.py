@@ -3,6 +3,7 @@
 import fcntl
 import json
 import os
+import shutil
 import subprocess
 import threading
 import time
@@ -158,6 +159,12 @@ class Pipes(ToolCase):
             pass
         self.fails(FILE, "read", self.anchor, self.card, "3", "--output", self.pipe, says=["cannot write the output", "temporarily unavailable"])
 
+    def test_formats_on_a_pipe(self):
+        for anchor, card in ((self.pipe, "c"), ("a", self.pipe)):
+            self.fails(FILE, "format", "--depth=3", anchor, card, says=["pipe is there already"])
+            self.fails(FILE, "format", "--depth=3", "--force", anchor, card, says=["pipe", "not a regular file"])
+
+    @unittest.skipUnless(shutil.which("bash"), "bash is not here, so it substitutes nothing")
     def test_process_substitution(self):
         line = f'"{TOOL}" write "{self.anchor}" "{self.card}" 3 --input <(sleep 0.2; printf %064d 7)'
         done = subprocess.run(["bash", "-c", line], capture_output=True, timeout=60, check=False)
