@@ -25,8 +25,7 @@ int input_take(const struct request *request, const char *what, const char *path
     int status = 0;
     if (!taken && errno == ETIMEDOUT)
         status = failure(request, STATUS_FILE,
-                         "nothing came from %s %s for %" PRIu64 " seconds: it is a pipe that "
-                         "nobody writes to",
+                         "nothing came from %s %s for %" PRIu64 " seconds; --wait waits longer",
                          what, path, seconds);
     else if (!taken)
         status = system_failure(request, "cannot read %s%s%s", standard ? "standard input" : what,

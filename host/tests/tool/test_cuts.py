@@ -1,6 +1,7 @@
 """Cuts and failures between the steps of a write and of a format: what each leaves."""
 
 import errno
+import json
 import os
 import signal
 import stat
@@ -11,7 +12,7 @@ from support import FAULTS, FILE, ToolCase, block
 CUT = 99
 
 
-@unittest.skipUnless(FAULTS, "no library to preload: cuts are tried on the plain tool alone")
+@unittest.skipUnless(FAULTS, "nothing can be preloaded before the sanitizers: cuts and failing calls are tried on the plain tool")
 class Cuts(ToolCase):
     def setUp(self):
         super().setUp()
@@ -80,6 +81,20 @@ class Cuts(ToolCase):
                 self.refused(8, *words, node=node)
         self.assertEqual(self.report("show", self.anchor)["writes"], 3)
         self.model.bytes = whole
+
+    def test_what_a_write_mends_after_a_cut(self):
+        for index, lost in ((5, 5), (4, 5), (2, 3), (7, 7)):
+            for done in range(6):
+                with self.subTest(index=index, ranges_out=done):
+                    words = "write", "--text", "x", self.anchor, self.card, str(index)
+                    self.assertEqual(self.run_with(f"pwrite:{done + 1}:cut", *words).returncode, CUT)
+                    report = json.loads(self.tool("check", "--all", "--json", self.anchor, self.card).stdout)
+                    mended = [run["first"] for run in report["runs"] if run["write_mends"]]
+                    self.assertEqual(mended, [lost] if done == 5 else [])
+                    for block_number in mended:
+                        self.accepted("write", "--text", "again", self.anchor, self.card, str(block_number))
+                        self.accepted("check", self.anchor, self.card)
+                    self.start_again()
 
     def test_cut_after_the_card_is_out(self):
         for fault, status in (("fsync:3:cut", CUT), ("fsync:4:cut", 0)):

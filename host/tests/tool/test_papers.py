@@ -94,7 +94,9 @@ class Completion(ToolCase):
             self.assertEqual(self.offers(*words), [], words)
         for words in (["read", "--text", ""], ["read", "--text", "a", ""], ["write", "--text", "x", "a", ""], ["check", "--wait", "1", "--all", ""], ["show", "--", ""]):
             self.assertEqual(sorted(self.offers(*words)), every, words)
-        for words in (["read", "--text", "a", "c", ""], ["check", "--wait", "=", "1", "a", "c", ""]):
+        for words in (["check", "--wait", "=", "1", "a", ""], ["write", "--text", "=", "x", "a", ""], ["read", "--text", "--hex", "a", ""]):
+            self.assertEqual(sorted(self.offers(*words)), every, words)
+        for words in (["read", "--text", "a", "c", ""], ["check", "--wait", "=", "1", "a", "c", ""], ["show", "--", "--wait", "c", ""]):
             self.assertEqual(self.offers(*words), [], words)
 
     def test_it_loads_as_bash_does(self):
