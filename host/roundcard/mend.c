@@ -7,15 +7,12 @@ static uint64_t read_refused_at(const struct situation *s, uint64_t index) {
         pat_read(s->anchor, s->anchor_len, s->card, s->card_len, index, block, sizeof block));
 }
 
-// As a write does, from the root downwards, at each level the path's node and then its sibling, but
-// not the block itself. A read of any block under a node names that node if it is the first that is
-// wrong.
-uint64_t write_refused_at(const struct situation *s, uint64_t index) {
-    uint64_t leaves = (uint64_t)1 << s->depth, own = read_refused_at(s, index);
+// As a write does, from the root downwards; the path's own nodes are right. A read of any block
+// under a node names that node if it is the first that is wrong.
+uint64_t write_refused_at(const struct situation *s, uint64_t node) {
+    uint64_t leaves = (uint64_t)1 << s->depth;
     for (uint64_t span = leaves / 2; span > 0; span /= 2) {
-        uint64_t node = (leaves + index) / span, sibling = node ^ 1;
-        if (own == node && span > 1)
-            return node;
+        uint64_t sibling = node / span ^ 1;
         if (read_refused_at(s, sibling * span - leaves) == sibling)
             return sibling;
     }

@@ -126,7 +126,7 @@ static const char *remark(uint64_t node) {
 // More on the wrong tag of a block: it can be replaced where a write of it is accepted.
 static void advise_on_block(char *text, const struct situation *s, uint64_t node) {
     const char *plain = remedies[PAT_REFUSED_TAG].advice;
-    uint64_t index = node - ((uint64_t)1 << s->depth), hindrance = write_refused_at(s, index);
+    uint64_t index = node - ((uint64_t)1 << s->depth), hindrance = write_refused_at(s, node);
     if (hindrance == 0 && s->writes)
         snprintf(text, LONGEST, "%s, or write block %" PRIu64 " first and then block %" PRIu64,
                  plain, index, s->index);

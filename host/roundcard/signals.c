@@ -16,3 +16,21 @@ void hold_signals(sigset_t *before) {
 void release_signals(const sigset_t *before) {
     sigprocmask(SIG_SETMASK, before, NULL);
 }
+
+// Whether nothing happens when it comes.
+static bool is_harmless(int number) {
+    struct sigaction action;
+    if (number == SIGCHLD || number == SIGCONT || number == SIGURG || number == SIGWINCH)
+        return true;
+    return sigaction(number, NULL, &action) != 0 || action.sa_handler == SIG_IGN;
+}
+
+bool signal_waits(void) {
+    sigset_t waiting;
+    if (sigpending(&waiting) != 0)
+        return false;
+    for (int number = 1; number <= SIGRTMAX; number++)
+        if (sigismember(&waiting, number) == 1 && !is_harmless(number))
+            return true;
+    return false;
+}

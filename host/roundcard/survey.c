@@ -42,8 +42,8 @@ int survey_take(const struct request *request, const struct situation *s, struct
         return system_failure(request, "no memory for the list of blocks");
     int status = read_all(request, s, survey);
     for (size_t k = 0; status == 0 && k < survey->count; k++)
-        survey->runs[k].mends = survey->runs[k].node >> s->depth != 0 &&
-                                write_refused_at(s, survey->runs[k].first) == 0;
+        survey->runs[k].mends =
+            survey->runs[k].node >> s->depth != 0 && write_refused_at(s, survey->runs[k].node) == 0;
     if (status != 0)
         survey_free(survey);
     return status;

@@ -110,12 +110,15 @@ static int store(const struct request *request, const struct anchor *anchor,
     return status;
 }
 
-// The same, with signals held back until both files are out.
+// The same, with signals held back until both files are out. One that came may end the tool before
+// its report.
 static int store_undisturbed(const struct request *request, const struct anchor *anchor,
-                             const struct card *card, const uint8_t *ranges) {
+                             const struct card *card, const uint8_t *ranges, uint64_t index) {
     sigset_t before;
     hold_signals(&before);
     int status = store(request, anchor, card, ranges);
+    if (status == 0 && signal_waits())
+        notice(request, "block %" PRIu64 " is written, and a signal came meanwhile", index);
     release_signals(&before);
     return status;
 }
@@ -150,7 +153,7 @@ static int write_block(const struct request *request, struct anchor *anchor, str
     situation.writes = true;
     if (answer != 0)
         return explain_refusal(request, &situation);
-    int status = store_undisturbed(request, anchor, card, ranges);
+    int status = store_undisturbed(request, anchor, card, ranges, index);
     return status == 0 ? report(request, anchor, index, ranges) : status;
 }
 

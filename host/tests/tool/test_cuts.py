@@ -127,15 +127,18 @@ class Cuts(ToolCase):
 
     def signalled(self, fault, number, *words):
         """The return code of a run that gets the signal at a step; in a session of its own no signal stops it."""
-        return self.run_with(f"{fault}:signal{number}", *words, start_new_session=True).returncode
+        done = self.run_with(f"{fault}:signal{number}", *words, start_new_session=True)
+        self.said = done.stderr.decode()
+        return done.returncode
 
     def test_every_signal_waits_for_the_card(self):
-        harmless = {signal.SIGCHLD, signal.SIGCONT, signal.SIGURG, signal.SIGWINCH, signal.SIGTSTP, signal.SIGTTIN, signal.SIGTTOU}
-        harmless |= {signal.SIGXFSZ, signal.SIGPIPE}
+        silent = {signal.SIGCHLD, signal.SIGCONT, signal.SIGURG, signal.SIGWINCH, signal.SIGXFSZ, signal.SIGPIPE}
+        harmless = silent | {signal.SIGTSTP, signal.SIGTTIN, signal.SIGTTOU}
         for number in sorted(signal.valid_signals() - {signal.SIGKILL, signal.SIGSTOP}):
             for fault in ("rename:1", "pwrite:1"):
                 with self.subTest(signal=number, fault=fault):
                     self.assertEqual(self.signalled(fault, int(number), *self.words), 0 if number in harmless else -number)
+                    self.assertEqual(self.said, "" if number in silent else "roundcard write: block 5 is written, and a signal came meanwhile\n")
                     self.assertEqual(self.both(), self.new)
                     self.start_again()
 
