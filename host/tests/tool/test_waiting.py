@@ -48,6 +48,9 @@ class Locks(ToolCase):
 
     def start(self, *words):
         process = subprocess.Popen([TOOL, *map(os.fspath, words)], stdout=subprocess.PIPE, stderr=subprocess.PIPE)
+        end = threading.Timer(30, process.kill)
+        end.start()
+        self.addCleanup(end.cancel)
         self.addCleanup(process.stdout.close)
         self.addCleanup(process.stderr.close)
         return process
