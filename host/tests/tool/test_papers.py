@@ -92,9 +92,9 @@ class Completion(ToolCase):
         self.assertEqual(self.offers("check", "--picture", "=", "two"), ["two words"])
         for words in (["write", "--text", ""], ["check", "--wait", ""], ["write", "--text", "x", "a", "c", ""]):
             self.assertEqual(self.offers(*words), [], words)
-        for words in (["read", "--text", ""], ["read", "--text", "a", ""], ["write", "--text", "x", "a", ""], ["check", "--wait", "1", "--all", ""], ["show", "--", ""]):
-            self.assertEqual(sorted(self.offers(*words)), every, words)
-        for words in (["check", "--wait", "=", "1", "a", ""], ["write", "--text", "=", "x", "a", ""], ["read", "--text", "--hex", "a", ""]):
+        open_to_files = [["read", "--text", ""], ["read", "--text", "a", ""], ["write", "--text", "x", "a", ""], ["show", "--", ""]]
+        open_to_files += [["check", "--wait", "1", "--all", ""], ["check", "--wait", "=", "1", "a", ""], ["write", "--text", "=", "x", "a", ""]]
+        for words in open_to_files:
             self.assertEqual(sorted(self.offers(*words)), every, words)
         for words in (["read", "--text", "a", "c", ""], ["check", "--wait", "=", "1", "a", "c", ""], ["show", "--", "--wait", "c", ""]):
             self.assertEqual(self.offers(*words), [], words)

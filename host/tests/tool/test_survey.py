@@ -115,6 +115,15 @@ class Survey(ToolCase):
         self.card.write_bytes(card[:-1])
         self.refused(3, *words)
 
+    def test_report_that_cannot_be_printed(self):
+        words = self.damaged(3, 9)
+        for form in ([], ["--json"]):
+            with open("/dev/full", "wb") as full:
+                done = self.tool(*words, *form, stdout=full)
+            self.assertEqual(done.returncode, FILE)
+            for part in ("cannot write to standard output", "refused, 8: the tag of node 9, block 1, is wrong", "or write block 1 again"):
+                self.assertIn(part, done.stderr.decode())
+
     def on_a_terminal(self, words, **variables):
         """What a terminal gets."""
         environment = {name: value for name, value in os.environ.items() if name not in ("TERM", "NO_COLOR")}

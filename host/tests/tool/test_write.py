@@ -154,7 +154,8 @@ class Write(ToolCase):
             self.both_equal(self.model)
 
     def test_swapped_files(self):
-        for words in (["write", "--text", "x", self.card, self.anchor, "1"], ["read", self.card, self.anchor, "1"], ["check", self.card, self.anchor]):
+        last = self.card, self.anchor
+        for words in (["write", "--text", "x", *last, "1"], ["read", *last, "1"], ["check", *last], ["check", "--all", *last]):
             says = ["the anchor file has 784 bytes, as a card image has, and the card image has 32", "swapped", "give ANCHOR first"]
             self.refused(5, *words, says=says)
             self.assertNotIn("chmod", self.said)
@@ -214,7 +215,8 @@ class Write(ToolCase):
         self.assertEqual([path.name for path in folder.iterdir()], ["anchor"])
 
     def test_names_with_odd_characters(self):
-        shown = {b"--odd": "--odd", b"b\xff\"\\": 'b\\xff"\\\\', b"new\nline": "new\\nline", b"\x1b[2J\t": "\\x1b[2J\\t", b"\xc2\x9b\xc3\xa9": "\\xc2\\x9bé"}
+        shown = {b"--odd": "--odd", b"b\xff\"\\": r'b\xff"\\', b"new\nline": r"new\nline", b"\x1b[2J\t": r"\x1b[2J\t"}
+        shown[b"\xc2\x9b\xc3\xa9"] = r"\xc2\x9bé"
         for name, said in shown.items():
             anchor, card = (os.fsdecode(name + part) for part in (b".a", b".c"))
             (self.room / anchor).write_bytes(self.anchor.read_bytes())
