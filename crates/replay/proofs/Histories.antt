@@ -46,16 +46,16 @@ pub record History : Type 0 where
 abbrev pub history : ℕ → ℕ → ℕ → ℕ → History
 history n i u w =
     let s = start checksum (replicate 16 0) n (replicate (cardLength n) 0) in
-    let old = s .left in
+    let old = s .store .left in
     let writing = write i newBlock (replicate (16 * n) 0) in
     let t = next checksum s (record { card = old; call = writing }) in
-    let new = t .left in
+    let new = t .store .left in
     let mixed = older n old (older n old new u) w in
     let reading = read i (replicate 64 0) in
-    let a = t .anchor in
+    let a = t .store .anchor in
     record {
       answers =
-          answer (s .anchor) old writing
+          answer (s .store .anchor) old writing
           ∷ answer a new reading ∷ answer a new check
           ∷ answer a old reading ∷ answer a old check
           ∷ answer a mixed reading ∷ answer a mixed check ∷ [];
