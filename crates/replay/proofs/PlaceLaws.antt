@@ -1,6 +1,6 @@
 -- Places in a list.
-use mathlib.Core.Path.{_≡_, refl, ap, subst, _∙_}
-use mathlib.Core.List.{List, [], _∷_, _++_, append-assoc}
+use mathlib.Core.Path.{_≡_, refl, ap, ap₂, subst, _∙_}
+use mathlib.Core.List.{List, [], _∷_, _++_, map, map-append, append-assoc}
 use Prim.Native.Nat.{ℕ}
 use native.Mathlib.Omega.{arith}
 use Rattle.replay.specs.Places.{Place}
@@ -50,3 +50,38 @@ module _ {A : Type 0} where
 
           tail : x ∷ xs ≡ z ∷ (before ++ (y ∷ behind)) → xs ≡ before ++ (y ∷ behind)
           tail e = cc
+
+-- Places of a list under a function
+module _ {A B : Type 0} (f : A → B) where
+  abbrev pub mapped : {xs : List A} → Place xs → Place (map f xs)
+  mapped p =
+      record {
+        before = map f (p .before);
+        item = f (p .item);
+        behind = map f (p .behind);
+        is = ap (map f) (p .is) ∙ map-append f (p .before) (p .item ∷ p .behind);
+      }
+
+  -- each is the image of a place
+  pub record Image (xs : List A) (q : Place (map f xs)) : Type 0 where
+    pub place : Place xs
+    pub before-is : map f (place .before) ≡ q .before
+    pub item-is : f (place .item) ≡ q .item
+
+  pub image : (xs : List A) (q : Place (map f xs)) → Image xs q
+  image xs q = go xs (q .before) (q .item) (q .behind) (q .is)
+    where
+      go : (xs : List A) (before : List B) (y : B) (behind : List B) (is : map f xs ≡ before ++ (y ∷ behind))
+          → Image xs (record { before = before; item = y; behind = behind; is = is })
+      go [] [] y behind e = let z : _≡_ {A = ℕ} 0 1 = cc in absurd (omega arith)
+      go [] (z ∷ before) y behind e = let z : _≡_ {A = ℕ} 0 1 = cc in absurd (omega arith)
+      go (x ∷ xs) [] y behind e = record { place = first x xs; before-is = refl; item-is = cc e }
+      go (x ∷ xs) (z ∷ before) y behind e =
+          let tail : map f xs ≡ before ++ (y ∷ behind) = cc e in
+          let head : f x ≡ z = cc e in
+          let k = go xs before y behind tail in
+          record {
+            place = later x (k .place);
+            before-is = ap₂ (λ (h : B) (l : List B). h ∷ l) head (k .before-is);
+            item-is = k .item-is;
+          }
