@@ -37,6 +37,7 @@ for cc in "${CC:-gcc}" clang; do
     "$cc" -std=c11 $warnings -I"$here/.." -c "$here/misuse.c" -o "$room/object"
     misuse IGNORED_ANSWER 'unused-result'
     misuse NULL_POINTER 'nonnull'
+    misuse NO_DEPTH 'zero.size'
 done
 for cxx in "${CXX:-g++}" clang++; do
     command -v "$cxx" >/dev/null || { echo "skipped: $cxx is not here"; continue; }
