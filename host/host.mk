@@ -1,6 +1,7 @@
 # The host side: the tool, its tests, the demonstration and the installation. The main Makefile includes it and runs at the root.
 PAT_ARCHIVE ?= target/staticlib/libpat.a
-PAT_VERSION = 0.1.0
+# The header has the version.
+PAT_VERSION := $(shell sed -n 's/^.define PAT_VERSION "\(.*\)"$$/\1/p' host/pat.h)
 
 PREFIX ?= /usr/local
 BINDIR ?= $(PREFIX)/bin
@@ -22,7 +23,7 @@ TEST_SOURCES = $(wildcard host/tests/calls/*.c)
 TEST_NEEDS = $(TEST_SOURCES) $(wildcard host/tests/calls/*.h) host/pat.h host/host.mk $(PAT_ARCHIVE)
 TEST_BUILD = $(HOST_CC) $(HOST_FLAGS) $(HOST_SYSTEM) -g
 
-.PHONY: roundcard demo install host-test host-headers host-symbols host-calls host-trees host-tool host-installed FORCE
+.PHONY: roundcard demo install host-test host-headers host-symbols host-stack host-calls host-trees host-tool host-installed FORCE
 
 roundcard: $(HOST_OUT)/roundcard
 
@@ -57,6 +58,11 @@ $(HOST_OUT)/faults.so: host/tests/tool/faults.c
 	@mkdir -p $(@D)
 	$(HOST_CC) $(HOST_FLAGS) -D_GNU_SOURCE -shared -fPIC $< -o $@
 
+# Bound before it starts, so that no call has a dynamic linker on its stack.
+$(HOST_OUT)/stack: host/tests/stack.c host/pat.h host/host.mk $(PAT_ARCHIVE)
+	@mkdir -p $(@D)
+	$(TEST_BUILD) $< $(PAT_ARCHIVE) -Wl,-z,now -o $@
+
 demo: $(HOST_OUT)/roundcard
 	host/demo.sh $<
 
@@ -69,7 +75,7 @@ install: $(HOST_OUT)/roundcard
 	    host/pat.pc.in > $(HOST_OUT)/pat.pc
 	install -m 644 $(HOST_OUT)/pat.pc $(DESTDIR)$(LIBDIR)/pkgconfig/pat.pc
 
-host-test: host-headers host-symbols host-calls host-trees host-tool host-installed demo
+host-test: host-headers host-symbols host-stack host-calls host-trees host-tool host-installed demo
 
 # The header in C and C++, and its attributes.
 host-headers: $(PAT_ARCHIVE)
@@ -78,6 +84,10 @@ host-headers: $(PAT_ARCHIVE)
 # What the archive offers and needs.
 host-symbols: $(PAT_ARCHIVE)
 	host/tests/symbols.sh $(PAT_ARCHIVE)
+
+# The stack that each call needs.
+host-stack: $(HOST_OUT)/stack
+	$(HOST_OUT)/stack
 
 # The calls: on fenced pages, then under the sanitizers and under valgrind.
 host-calls: $(HOST_OUT)/calls $(HOST_OUT)/sanitized/calls
