@@ -29,7 +29,7 @@ misuse() {
 }
 
 for cc in "${CC:-gcc}" clang; do
-    command -v "$cc" >/dev/null || { echo "skipped: $cc is not here"; continue; }
+    command -v "$cc" >/dev/null || { echo "skipped: $cc is not here, so the header is not compiled with it"; continue; }
     for standard in c99 c11 c17; do
         try "$cc" "$standard" "$here/../example.c"
     done
@@ -40,7 +40,7 @@ for cc in "${CC:-gcc}" clang; do
     misuse NO_DEPTH 'zero.size'
 done
 for cxx in "${CXX:-g++}" clang++; do
-    command -v "$cxx" >/dev/null || { echo "skipped: $cxx is not here"; continue; }
+    command -v "$cxx" >/dev/null || { echo "skipped: $cxx is not here, so the header is not compiled with it"; continue; }
     for standard in c++11 c++17 c++20; do
         try "$cxx" "$standard" "$here/header.cpp"
     done
