@@ -67,5 +67,6 @@ example 1 >"$room/example.c"
 example 2 >"$room/expected"
 compile "$room/example.c" "$archive" -o "$room/example"
 "$room/example" >"$room/out" || fail 'its example ends otherwise'
-[ -s "$room/expected" ] && diff "$room/expected" "$room/out" >&2 || fail 'its example prints something else'
+[ -s "$room/expected" ] || fail 'it does not say what its example prints'
+diff "$room/expected" "$room/out" >&2 || fail 'its example prints something else'
 echo 'pat.3: prototypes, names, refusals and their order, and the example are as the header has them'
