@@ -80,13 +80,15 @@ module _ (key : List ℕ) where
   unfolding after
   rest s r rs f p = f (later r p)
 
-  left-by : (rs : List Called) (s : State) → Each rs (Tells key s) → after (cmacOf key) s (steps rs) .store .left ≡ leftBy (s .store .left) rs
+  left-by : (rs : List Called) (s : State) → Each rs (Tells key s)
+      → after (cmacOf key) s (steps rs) .store .left ≡ leftBy (s .store .left) rs
   unfolding after
   left-by [] s f = refl
   left-by (r ∷ rs) s f =
       left-by rs (next F s (r .step)) (rest s r rs f) ∙ ap (λ (l : List ℕ). leftBy l rs) (next-left s r (f (first r rs)))
 
-  array-by : (rs : List Called) (s : State) → Each rs (Tells key s) → after (cmacOf key) s (steps rs) .store .array ≡ arrayBy (s .store .array) rs
+  array-by : (rs : List Called) (s : State) → Each rs (Tells key s)
+      → after (cmacOf key) s (steps rs) .store .array ≡ arrayBy (s .store .array) rs
   unfolding after
   array-by [] s f = refl
   array-by (r ∷ rs) s f =
@@ -98,7 +100,8 @@ agrees-shows n array card given (read i buffer) a = a
 agrees-shows n array card given (write i block ranges) a = tt
 agrees-shows n array card given check a = a
 
-module _ (anchor card made left : List ℕ) (formatted : Formatted anchor card 0 made left) (rs : List Called) (ran : History (bytes made) rs) where
+module _ (anchor card made left : List ℕ) (formatted : Formatted anchor card 0 made left) (rs : List Called)
+    (ran : History (bytes made) rs) where
   abbrev k : List ℕ
   k = anchorOf anchor .key
 
@@ -154,7 +157,8 @@ module _ (anchor card made left : List ℕ) (formatted : Formatted anchor card 0
   untouched P f q w holds =
       let i = image (λ (c : Called). c .step) rs q in
       let p = i .place in
-      let same = ap₂ (λ (l : List Step) (y : Step). result (cmacOf k) (after (cmacOf k) s₀ l .store) y .answer) (i .before-is) (i .item-is) in
+      let same = ap₂ (λ (l : List Step) (y : Step). result (cmacOf k) (after (cmacOf k) s₀ l .store) y .answer) (i .before-is)
+      (i .item-is) in
       sym (ap (λ (y : Step). y .card) (i .item-is))
       ∙ f p (demand .told p .coded ∙ ap codeOf (same ∙ w) ∙ whole-code) (holds (p .item) (i .item-is))
       ∙ sym (left-is p)
@@ -168,7 +172,8 @@ front-ran : (h : Held) (before behind : List Called) → History h (before ++ be
 front-ran h [] behind k = tt
 front-ran h (r ∷ before) behind k = (k .0, k .1, front-ran (r .anchor) before behind (k .2))
 
-module _ (anchor card made left : List ℕ) (formatted : Formatted anchor card 0 made left) (rs : List Called) (ran : History (bytes made) rs) where
+module _ (anchor card made left : List ℕ) (formatted : Formatted anchor card 0 made left) (rs : List Called)
+    (ran : History (bytes made) rs) where
   quiet : Each rs (λ before r. WritesUntouched left before → r .step .card ≡ leftBy left before → (u : ℕ) → r .code ≡ 8 + 256 * u → ⊥)
   quiet p f same u code =
       let early = front-ran (bytes made) (p .before) (p .item ∷ p .behind) (subst (History (bytes made)) (p .is) ran) in
@@ -185,7 +190,8 @@ module _ (anchor card made left : List ℕ) (formatted : Formatted anchor card 0
   plain-demand =
       record {
         safe = ⊎-elim
-            (λ (a : Agreement (cmacOf (anchorOf anchor .key)) (begin anchor card) (steps rs)). inl (agreed anchor card made left formatted rs ran a))
+            (λ (a : Agreement (cmacOf (anchorOf anchor .key)) (begin anchor card) (steps rs)). inl
+            (agreed anchor card made left formatted rs ran a))
             (λ (f : Forgery (cmacOf (anchorOf anchor .key)) (begin anchor card) (steps rs)). inr f)
             (demand3-of-calls anchor card made left formatted rs ran .demand .safe);
         honest = honest anchor card made left formatted rs ran;

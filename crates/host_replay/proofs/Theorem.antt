@@ -15,7 +15,8 @@ use Rattle.replay.proofs.Theorem.{demand3, unforged}
 use Rattle.pat.specs.Host.{anchorBytes, anchorOf, Codes}
 use Rattle.pat.specs.RoundTrip.{Stands}
 use Rattle.pat.proofs.AnchorLaws.{call-stands, call-codes, format-whole, format-left, format-stands}
-use Rattle.host_replay.specs.Called.{Held, bytes, struct, anchorIn, Called, steps, Says, Meets, Handed, History, Formatted, begin, Demand3Of}
+use Rattle.host_replay.specs.Called.{Held, bytes, struct, anchorIn, Called, steps, Says, Meets, Handed, History, Formatted, begin}
+use Rattle.host_replay.specs.Called.{Demand3Of}
 
 -- One call
 
@@ -78,11 +79,13 @@ module _ (key : List ℕ) where
       here : Codes (result F (s .store) (r .step)) (r .code) (anchorIn (r .anchor)) (r .card) (r .lent)
       here =
           subst (λ (m : List ℕ). Codes (result (cmacOf m) (s .store) (r .step)) (r .code) (anchorIn (r .anchor)) (r .card) (r .lent)) k
-          (subst (λ (a : Anchor). Codes (outcome (cmacOf (a .key)) a (r .step .card) (r .step .call)) (r .code) (anchorIn (r .anchor)) (r .card) (r .lent))
+          (subst (λ (a : Anchor). Codes (outcome (cmacOf (a .key)) a (r .step .card) (r .step .call)) (r .code) (anchorIn (r .anchor))
+          (r .card) (r .lent))
           (handed-same h (r .given) (ran .0) ∙ e)
           (says-codes (r .given) (r .anchor) (r .step) (r .code) (r .card) (r .lent) long-given (ran .1)))
 
-module _ (anchor card made left : List ℕ) (formatted : Formatted anchor card 0 made left) (rs : List Called) (ran : History (bytes made) rs) where
+module _ (anchor card made left : List ℕ) (formatted : Formatted anchor card 0 made left) (rs : List Called)
+    (ran : History (bytes made) rs) where
   abbrev k : List ℕ
   k = anchorOf anchor .key
 

@@ -73,5 +73,6 @@ pub record Demand3Of (anchor card made left : List ℕ) (rs : List Called) : Typ
   pub demand : Demand3 (cmacOf (anchorOf anchor .key)) (begin anchor card) (steps rs)
   pub unforged : Unforged (cmacOf (anchorOf anchor .key)) (begin anchor card) (anchorOf anchor .depth) (steps rs)
   pub told : (p : Place rs)
-      → Codes (result (cmacOf (anchorOf anchor .key)) (after (cmacOf (anchorOf anchor .key)) (begin anchor card) (steps (p .before)) .store) (p .item .step))
+      → Codes (result (cmacOf (anchorOf anchor .key)) (after (cmacOf (anchorOf anchor .key)) (begin anchor card) (steps (p .before)) .store)
+      (p .item .step))
       (p .item .code) (anchorIn (p .item .anchor)) (p .item .card) (p .item .lent)

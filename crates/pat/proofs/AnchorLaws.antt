@@ -13,7 +13,8 @@ use Rattle.words.proofs.Cases.{equal-or-not}
 use Rattle.cmac.specs.Cmac.{cmacOf}
 use Rattle.tree.specs.Numbers.{be8}
 use Rattle.tree.specs.Answer.{refusalNumber, isWhole}
-use Rattle.tree.specs.Calls.{Call, read, write, check, lentTo, isWrite, rooted, Outcome, answerOf, settled, outcome, formatAnswer, formatCard, format}
+use Rattle.tree.specs.Calls.{Call, read, write, check, lentTo, isWrite, rooted, Outcome, answerOf, settled, outcome, formatAnswer}
+use Rattle.tree.specs.Calls.{formatCard, format}
 use Rattle.tree.specs.declared.Anchor.{Anchor}
 use Rattle.tree.specs.declared.Refusal.{Refusal}
 use Rattle.tree.specs.declared.Refusal.the-variants.{Depth, RootNonce, CardLength, BlockNumber, BlockLength, RangeLength, NoncesSpent}
@@ -51,7 +52,8 @@ module _ (s : List ℕ) (long : length s ≡ anchorBytes) (t : ℕ) where
   put-stands h = record { long = put-long; is = same put-key (ap number put-depth) (ap number put-root ∙ number-be 8 t (omega arith)) }
     where
       same : {k l : List ℕ} {n m u r : ℕ} → k ≡ l → n ≡ m → u ≡ r
-          → _≡_ {A = Anchor} (record { key = k; depth = n; root = record { 0 = u } }) (record { key = l; depth = m; root = record { 0 = r } })
+          → _≡_ {A = Anchor} (record { key = k; depth = n; root = record { 0 = u } })
+          (record { key = l; depth = m; root = record { 0 = r } })
       same p q r = cc
 
 -- Codes
@@ -77,7 +79,8 @@ unfolding codeOf
 whole-code = refl
 
 -- and to an anchor of another length no call says it
-measured-zero : (anchor card lent : List ℕ) (h : Host) (e left filled : List ℕ) → Hosts (measured anchor card lent h) 0 e left filled → length anchor ≡ anchorBytes
+measured-zero : (anchor card lent : List ℕ) (h : Host) (e left filled : List ℕ) → Hosts (measured anchor card lent h) 0 e left filled
+    → length anchor ≡ anchorBytes
 measured-zero anchor card lent h e left filled g =
     ⊎-elim (λ (p : length anchor ≡ anchorBytes). p)
     (λ (d : length anchor ≡ anchorBytes → ⊥).
@@ -146,7 +149,8 @@ call-refused : (s card : List ℕ) (c : Call) (code : ℕ) (e left lent : List �
 unfolding hostCall
 call-refused s card c code e left lent g d =
     let F = cmacOf (anchorOf s .key) in
-    measured-refused s card (lentTo c) (isWrite c) (outcome F (anchorOf s) card c) (outcome-leaves F (anchorOf s) card c) code e left lent g d
+    measured-refused s card (lentTo c) (isWrite c) (outcome F (anchorOf s) card c)
+    (outcome-leaves F (anchorOf s) card c) code e left lent g d
 
 format-refused : (s card : List ℕ) (code : ℕ) (e left : List ℕ) → Hosts (hostFormat s card) code e left [] → (code ≡ 0 → ⊥)
     → (e ≡ s) × (left ≡ card)
@@ -174,13 +178,15 @@ module _ (F : List ℕ → List ℕ) (s : List ℕ) (long : length s ≡ anchorB
   settled-stands (write i block ranges) (Wrong u) e = kept
   settled-stands (write i block ranges) (Refused r) e = kept
   settled-stands (write i block ranges) Whole e =
-      put-stands s long (anchorOf s .root .0 + anchorOf s .depth) (accepted F (anchorOf s) card (write i block ranges) e .limits-passed .unspent)
+      put-stands s long (anchorOf s .root .0 + anchorOf s .depth)
+      (accepted F (anchorOf s) card (write i block ranges) e .limits-passed .unspent)
 
   hosted-stands : (c : Call) → Stands (hosted (isWrite c) s (outcome F (anchorOf s) card c) .anchor) (outcome F (anchorOf s) card c .anchor)
   unfolding outcome
   hosted-stands c = settled-stands c (answerOf F (anchorOf s) card c) refl
 
-module _ (s : List ℕ) (long : length s ≡ anchorBytes) (card : List ℕ) (c : Call) (code : ℕ) (e left lent : List ℕ) (g : Hosts (hostCall s card c) code e left lent) where
+module _ (s : List ℕ) (long : length s ≡ anchorBytes) (card : List ℕ) (c : Call) (code : ℕ) (e left lent : List ℕ)
+    (g : Hosts (hostCall s card c) code e left lent) where
   abbrev o : Outcome
   o = outcome (cmacOf (anchorOf s .key)) (anchorOf s) card c
 

@@ -72,7 +72,8 @@ module _ (F : List ℕ → List ℕ) (F16 : (m : List ℕ) → length (F m) ≡ 
           → (Accepted F (s .store) x → ChecksTagged s x) ⊎ Forged F s x
       not-whole o e d = inl (λ w. absurd (d (sym e ∙ is w)))
 
-      go : (o : Answer) → answerOf F (s .store .anchor) (x .card) (x .call) ≡ o → (Accepted F (s .store) x → ChecksTagged s x) ⊎ Forged F s x
+      go : (o : Answer) → answerOf F (s .store .anchor) (x .card) (x .call) ≡ o
+          → (Accepted F (s .store) x → ChecksTagged s x) ⊎ Forged F s x
       go (Wrong u) e = not-whole (Wrong u) e (λ p. let z : _≡_ {A = ℕ} 0 1 = cc in omega arith)
       go (Refused r) e = not-whole (Refused r) e (λ p. let z : _≡_ {A = ℕ} 0 1 = cc in omega arith)
       go Whole e =
@@ -92,7 +93,8 @@ module _ (F : List ℕ → List ℕ) (F16 : (m : List ℕ) → length (F m) ≡ 
         → Agrees (s .store .anchor .depth) (s .store .array) card (done F (s .store .anchor) card c .lent) c
     shows (read i buffer) p all =
         let n = s .store .anchor .depth in
-        read-same safe card (p .sound .full) i (p .inside) (λ y h l. all (pathNode n i y) (read-checks n i buffer (p .inside) y h l)) (p .sound .deep)
+        read-same safe card (p .sound .full) i (p .inside) (λ y h l. all (pathNode n i y) (read-checks n i buffer (p .inside) y h l))
+        (p .sound .deep)
     shows (write i block ranges) p all = tt
     shows check p all = check-same safe card (p .full) (λ w h. all w (check-checks (s .store .anchor .depth) w h)) (p .deep)
 
@@ -112,13 +114,15 @@ module _ (F : List ℕ → List ℕ) (F16 : (m : List ℕ) → length (F m) ≡ 
   agrees-tagged s safe x all w =
       let a = s .store .anchor in
       let e = sym (outcome-answer F a (x .card) (x .call)) ∙ w in
-      subst (λ (o : Outcome). Agrees (a .depth) (s .store .array) (x .card) (o .lent) (x .call)) (sym (outcome-done F a (x .card) (x .call) e))
+      subst (λ (o : Outcome). Agrees (a .depth) (s .store .array) (x .card) (o .lent) (x .call))
+      (sym (outcome-done F a (x .card) (x .call) e))
       (shows s safe (x .card) (x .call) (accepted F a (x .card) (x .call) e .limits-passed) (all w))
 
   -- and leaves what is known safe
   pub safe-next : (s : State) → Safe s → (x : Step) → (Accepted F (s .store) x → ChecksTagged s x) → Safe (next F s x)
   safe-next s safe x all =
-      stays s safe (x .card) (x .call) (λ e. all (outcome-answer F (s .store .anchor) (x .card) (x .call) ∙ e)) (move F s (x .card) (x .call))
+      stays s safe (x .card) (x .call) (λ e. all (outcome-answer F (s .store .anchor) (x .card) (x .call) ∙ e))
+      (move F s (x .card) (x .call))
 
   -- The list
 

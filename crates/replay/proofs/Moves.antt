@@ -89,7 +89,8 @@ move F s card (read i buffer) = still (read-moves F s card i buffer)
 move F s card check = still (check-moves F s card)
 move F s card (write i block ranges) = go (answerOf F (s .store .anchor) card (write i block ranges)) refl
   where
-    not-whole : (o : Answer) → answerOf F (s .store .anchor) card (write i block ranges) ≡ o → (o ≡ Whole → ⊥) → Move F s card (write i block ranges)
+    not-whole : (o : Answer) → answerOf F (s .store .anchor) card (write i block ranges) ≡ o → (o ≡ Whole → ⊥)
+        → Move F s card (write i block ranges)
     not-whole o e d = still (refused F s card (write i block ranges) (λ p. d (sym e ∙ p)))
 
     go : (o : Answer) → answerOf F (s .store .anchor) card (write i block ranges) ≡ o → Move F s card (write i block ranges)

@@ -67,7 +67,8 @@ module _ (key : List ℕ) where
   abbrev Tells : State → List Ran → Ran → Type 0
   Tells s before r = Gives (result F (after F s (steps before) .store) (r .step)) (r .answer) (r .anchor) (r .card) (r .lent)
 
-  follows : (rs : List Ran) (s : State) → s .store .anchor .key ≡ key → History (s .store .anchor) rs → (p : Place rs) → Tells s (p .before) (p .item)
+  follows : (rs : List Ran) (s : State) → s .store .anchor .key ≡ key → History (s .store .anchor) rs → (p : Place rs)
+      → Tells s (p .before) (p .item)
   unfolding after next
   follows [] s k h = λ p. absurd (no-place p)
   follows (r ∷ rs) s k h =
@@ -84,7 +85,8 @@ module _ (key : List ℕ) where
       kept : next F s (r .step) .store .anchor .key ≡ s .store .anchor .key
       kept = outcome-key F (s .store .anchor) (r .step .card) (r .step .call) .0
 
-module _ (key : List ℕ) (n : ℕ) (card : List ℕ) (a : Anchor) (left : List ℕ) (made : Formatted key n card Whole a left) (rs : List Ran) (ran : History a rs) where
+module _ (key : List ℕ) (n : ℕ) (card : List ℕ) (a : Anchor) (left : List ℕ) (made : Formatted key n card Whole a left) (rs : List Ran)
+    (ran : History a rs) where
   accepted : IsCard n card
   unfolding format
   accepted = format-in n card (sym (made .answered))

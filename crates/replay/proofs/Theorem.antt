@@ -29,7 +29,8 @@ use Rattle.replay.proofs.Untouched.{CleanState, quiet, accepts}
 use Rattle.replay.proofs.Unforged.{LeftTagged, kept, call-kept, by-calls, checked-here, agrees-here, none-forged, honest-agrees}
 
 -- For any tags of 16 bytes
-module _ (F : List ℕ → List ℕ) (F16 : (m : List ℕ) → length (F m) ≡ 16) (key : List ℕ) (n : ℕ) (deep : 1 ≤ n) (shallow : n ≤ 16) (card : List ℕ) (full : length card ≡ cardLength n) where
+module _ (F : List ℕ → List ℕ) (F16 : (m : List ℕ) → length (F m) ≡ 16) (key : List ℕ) (n : ℕ) (deep : 1 ≤ n) (shallow : n ≤ 16)
+    (card : List ℕ) (full : length card ≡ cardLength n) where
   abbrev begun : State
   begun = start F key n card
 
@@ -111,7 +112,8 @@ module _ (key : List ℕ) (n : ℕ) (deep : 1 ≤ n) (shallow : n ≤ 16) (card 
   pub unforged : Unforged (cmacOf key) (start (cmacOf key) key n card) n xs
   unforged = unforged-any (cmacOf key) (length-cmac key) key n deep shallow card full xs
 
-  pub root-nonce : after (cmacOf key) (start (cmacOf key) key n card) xs .store .anchor .root .0 ≡ writes (cmacOf key) (start (cmacOf key) key n card) xs * n
+  pub root-nonce : after (cmacOf key) (start (cmacOf key) key n card) xs .store .anchor .root .0 ≡ writes (cmacOf key)
+      (start (cmacOf key) key n card) xs * n
   root-nonce = root-any (cmacOf key) (length-cmac key) key n deep shallow card full xs
 
   pub key-kept : (after (cmacOf key) (start (cmacOf key) key n card) xs .store .anchor .key ≡ key)

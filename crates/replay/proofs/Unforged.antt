@@ -1,6 +1,7 @@
 -- What is tagged, and that a card which nobody touched shows nothing else.
 use mathlib.Core.Path.{_≡_, refl, sym, ap, subst, _∙_}
-use mathlib.Core.List.{List, [], _∷_, _++_, map, List·Memᴰ, List·Memᴰ·append-cases, Memᴰ·cast, Memᴰ·map, Memᴰ·of-map, Memᴰ·append-left, Memᴰ·append-right}
+use mathlib.Core.List.{List, [], _∷_, _++_, map, List·Memᴰ, List·Memᴰ·append-cases, Memᴰ·cast, Memᴰ·map, Memᴰ·of-map, Memᴰ·append-left}
+use mathlib.Core.List.{Memᴰ·append-right}
 use mathlib.Core.Logic.{_⊎_, inl, inr, ⊎-elim}
 use Prim.Native.Nat.{ℕ, _+_, _/_, _^_, _<_, _≤_}
 use lib.ListN.{length}
@@ -56,7 +57,8 @@ LeftTagged s = AllTagged s (s .store .left)
 module _ (F : List ℕ → List ℕ) (F16 : (m : List ℕ) → length (F m) ≡ 16) where
   -- A write
 
-  module _ (n t : ℕ) (card : List ℕ) (i : ℕ) (b : List ℕ) (deep : 1 ≤ n) (full : length card ≡ cardLength n) (inside : i < 2 ^ n) (long : length b ≡ 64) (M : List (List ℕ)) where
+  module _ (n t : ℕ) (card : List ℕ) (i : ℕ) (b : List ℕ) (deep : 1 ≤ n) (full : length card ≡ cardLength n) (inside : i < 2 ^ n)
+      (long : length b ≡ 64) (M : List (List ℕ)) where
     abbrev new : List (List ℕ)
     new = map (message (labels n (t + n) (written F n t t card i b))) (pairs n i)
 
@@ -69,11 +71,13 @@ module _ (F : List ℕ → List ℕ) (F16 : (m : List ℕ) → length (F m) ≡ 
         Memᴰ·cast (sym (written-message F F16 n deep t t card i b full inside long w (child-node n i inside w c))) (child-tagged w c)
 
     -- and leaves the messages of the other nodes
-    off-same : (w : ℕ) → IsNode n w → Off n i inside n (w / 2) → message (labels n (t + n) (written F n t t card i b)) w ≡ message (labels n t card) w
+    off-same : (w : ℕ) → IsNode n w → Off n i inside n (w / 2) → message (labels n (t + n) (written F n t t card i b)) w ≡ message
+        (labels n t card) w
     off-same w h f =
         let L = labels n t card in
         written-message F F16 n deep t t card i b full inside long w h
-        ∙ message-same (newLabels n t i b L) L w (new-off n t i b inside L w (off-child n i inside w h f)) (new-off n t i b inside L (w / 2) f)
+        ∙ message-same (newLabels n t i b L) L w (new-off n t i b inside L w (off-child n i inside w h f))
+        (new-off n t i b inside L (w / 2) f)
 
     all-written : ((u : ℕ) → IsNode n u → List·Memᴰ (message (labels n t card) u) M) → (u : ℕ) → IsNode n u
         → List·Memᴰ (message (labels n (t + n) (written F n t t card i b)) u) (new ++ M)
@@ -138,7 +142,8 @@ module _ (F : List ℕ → List ℕ) (F16 : (m : List ℕ) → length (F m) ≡ 
       let p = b .place in
       let z = known F s p in
       kept-place F s p m
-      (call-named z (p .item .card) (p .item .call) (sym (outcome-answer F (z .store .anchor) (p .item .card) (p .item .call)) ∙ b .accepted) m (b .tags))
+      (call-named z (p .item .card) (p .item .call) (sym (outcome-answer F (z .store .anchor) (p .item .card) (p .item .call))
+      ∙ b .accepted) m (b .tags))
 
   -- Nothing else is tagged
 
@@ -191,7 +196,8 @@ module _ (F : List ℕ → List ℕ) (F16 : (m : List ℕ) → length (F m) ≡ 
 
   -- The list
 
-  module _ (s : State) (k : LeftTagged s) {xs : List Step} (p : Place xs) (faithful : Faithful F s (p .before)) (untouched : Untouched (known F s p .store) (p .item)) where
+  module _ (s : State) (k : LeftTagged s) {xs : List Step} (p : Place xs) (faithful : Faithful F s (p .before))
+      (untouched : Untouched (known F s p .store) (p .item)) where
     left-known : LeftTagged (known F s p)
     left-known = kept-along F (WroteUntouched F) LeftTagged left-next (p .before) s k faithful
 
@@ -206,7 +212,8 @@ module _ (F : List ℕ → List ℕ) (F16 : (m : List ℕ) → length (F m) ≡ 
 
         safe-known : Safe F F16 (known F s p)
         safe-known =
-            kept-along F (WroteUntouched F) Both (λ z x b u. (left-next z x (b .0) u, safe-faithful z x (b .0) (b .1) u)) (p .before) s (k, safe)
+            kept-along F (WroteUntouched F) Both (λ z x b u. (left-next z x (b .0) u, safe-faithful z x (b .0) (b .1) u)) (p .before) s
+            (k, safe)
             faithful .1
 
   -- no call forged

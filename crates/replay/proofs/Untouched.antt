@@ -37,11 +37,13 @@ module _ (F : List ℕ → List ℕ) (F16 : (m : List ℕ) → length (F m) ≡ 
           (clean-written F F16 n (ok .sound .deep) t t card i block (ok .inside) (ok .long) (subst (Clean F n t) (sym same) k))
 
   -- what every call on an untouched card can count on
-  clean-place : (s : State) → CleanState s → {xs : List Step} (p : Place xs) → Faithful F s (p .before) → Untouched (known F s p .store) (p .item)
+  clean-place : (s : State) → CleanState s → {xs : List Step} (p : Place xs) → Faithful F s (p .before)
+      → Untouched (known F s p .store) (p .item)
       → Clean F (known F s p .store .anchor .depth) (known F s p .store .anchor .root .0) (p .item .card)
   clean-place s k p faithful untouched =
       let a = known F s p .store .anchor in
-      subst (Clean F (a .depth) (a .root .0)) (sym untouched) (kept-along F (WroteUntouched F) CleanState clean-next (p .before) s k faithful)
+      subst (Clean F (a .depth) (a .root .0)) (sym untouched) (kept-along F (WroteUntouched F) CleanState clean-next
+      (p .before) s k faithful)
 
   pub quiet : (s : State) → CleanState s → (xs : List Step) → Quiet F s xs
   quiet s k xs p faithful untouched u e =
@@ -50,7 +52,8 @@ module _ (F : List ℕ → List ℕ) (F16 : (m : List ℕ) → length (F m) ≡ 
       (sym (outcome-answer F a (p .item .card) (p .item .call)) ∙ e)
 
   -- and within its limits it is accepted
-  pub accepts : (s : State) → CleanState s → {xs : List Step} (p : Place xs) → Faithful F s (p .before) → Untouched (known F s p .store) (p .item)
+  pub accepts : (s : State) → CleanState s → {xs : List Step} (p : Place xs) → Faithful F s (p .before)
+      → Untouched (known F s p .store) (p .item)
       → Passes (known F s p .store .anchor) (p .item .card) (p .item .call) → Claim.Accepted F (known F s p .store) (p .item)
   accepts s k p faithful untouched limits =
       let a = known F s p .store .anchor in

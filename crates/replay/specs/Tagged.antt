@@ -52,7 +52,8 @@ module _ (F : List ℕ → List ℕ) (s₀ : State) where
     -- where every accepted write before a call had an untouched card, and so has the call, it checks tagged messages alone, and agrees
     pub checked : (p : Place xs) → Faithful F s₀ (p .before) → Untouched (known F s₀ p .store) (p .item)
         → Accepted F (known F s₀ p .store) (p .item) → ChecksTagged (known F s₀ p) (p .item)
-    pub agrees : (p : Place xs) → Faithful F s₀ (p .before) → Untouched (known F s₀ p .store) (p .item) → AgreesHere F (known F s₀ p) (p .item)
+    pub agrees : (p : Place xs) → Faithful F s₀ (p .before) → Untouched (known F s₀ p .store) (p .item)
+        → AgreesHere F (known F s₀ p) (p .item)
     -- where every accepted call had an untouched card there is no forgery, and the agreement holds outright
     pub unforged : Honest xs → Forgery F s₀ xs → ⊥
     pub agreed : Honest xs → Agreement F s₀ xs
