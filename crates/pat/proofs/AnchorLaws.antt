@@ -22,7 +22,7 @@ use Rattle.tree.specs.declared.Answer.{Answer}
 use Rattle.tree.specs.declared.Answer.the-variants.{Whole, Wrong, Refused}
 use Rattle.tree.proofs.ByteLaws.{length-be}
 use Rattle.tree.proofs.CallLaws.{accepted}
-use Rattle.pat.specs.Host.{anchorBytes, number, anchorOf, codeOf, Host, hosted, measured, hostCall, hostFormat, Hosts, Codes}
+use Rattle.pat.specs.Host.{anchorBytes, refusedLength, number, anchorOf, codeOf, Host, hosted, measured, hostCall, hostFormat, Hosts, Codes}
 use Rattle.pat.specs.RoundTrip.{Stands, RoundTrip}
 use Rattle.pat.proofs.HostLaws.{number-be, measured-in, measured-out, host-call, host-format}
 
@@ -84,7 +84,7 @@ measured-zero : (anchor card lent : List ℕ) (h : Host) (e left filled : List �
 measured-zero anchor card lent h e left filled g =
     ⊎-elim (λ (p : length anchor ≡ anchorBytes). p)
     (λ (d : length anchor ≡ anchorBytes → ⊥).
-    let z : _≡_ {A = ℕ} 0 5 = g .coded ∙ sym (measured-out anchor card lent h d .coded) in
+    let z : _≡_ {A = ℕ} 0 refusedLength = g .coded ∙ sym (measured-out anchor card lent h d .coded) in
     absurd (omega arith))
     (equal-or-not (length anchor) anchorBytes)
 
