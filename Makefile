@@ -20,13 +20,13 @@ vectors:
 
 # The proved code for Rust and C to link: rt proves what goes into an archive.
 archives:
-	for name in $(ARCHIVES); do rt staticlib $$name || exit 1; done
+	@for name in $(ARCHIVES); do host/staticlib.sh $$name || exit 1; done
 
 test: archives
 	$(CARGO) test
 
-check: test host-test
-	rt ci
+check:
+	@CARGO='$(CARGO)' .ci/check $(HOST_TESTS)
 
 bench: archives
 	$(CARGO) run --release --quiet -p bench -- --plot docs/calls.svg

@@ -8,7 +8,7 @@ enum { DEPTH = 2 };
 
 int main(void) {
     uint8_t anchor[PAT_ANCHOR_BYTES] = "sixteen byte key"; // a product draws its key at random
-    uint8_t card[104 * (1 << DEPTH) - 48];
+    uint8_t card[PAT_CARD_BYTES(DEPTH)];
     uint8_t block[PAT_BLOCK_BYTES] = "van 7: round 12", buffer[PAT_BLOCK_BYTES];
     uint8_t ranges[PAT_RANGE_BYTES(DEPTH)];
 
@@ -18,7 +18,7 @@ int main(void) {
     if (pat_write(anchor, sizeof anchor, card, sizeof card, 3, block, sizeof block, ranges,
                   sizeof ranges) != 0)
         return 1;
-    for (size_t k = 0; k < sizeof ranges / 8; k++)
+    for (size_t k = 0; k < PAT_RANGES(DEPTH); k++)
         printf("copy %2u bytes at %3u to the card\n", (unsigned)pat_range_length(ranges, k),
                (unsigned)pat_range_start(ranges, k));
     if (pat_read(anchor, sizeof anchor, card, sizeof card, 3, buffer, sizeof buffer) != 0)
@@ -27,6 +27,7 @@ int main(void) {
 
     card[sizeof card - 20] ^= 1;
     uint64_t answer = pat_read(anchor, sizeof anchor, card, sizeof card, 3, buffer, sizeof buffer);
-    printf("altered: refused %u at node %u\n", pat_refusal(answer), (unsigned)pat_node(answer));
+    printf("altered: refused %u at node %u: %s\n", pat_refusal(answer), (unsigned)pat_node(answer),
+           pat_refusal_text(answer));
     return pat_refusal(answer) == PAT_REFUSED_TAG ? 0 : 1;
 }

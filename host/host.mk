@@ -1,6 +1,7 @@
 # The host side: the tool, its tests, the demonstration and the installation. The main Makefile includes it and runs at the root.
 PAT_ARCHIVE ?= target/staticlib/libpat.a
-PAT_VERSION = 0.1.0
+# The header has the version.
+PAT_VERSION := $(shell sed -n 's/^.define PAT_VERSION "\(.*\)"$$/\1/p' host/pat.h)
 
 PREFIX ?= /usr/local
 BINDIR ?= $(PREFIX)/bin
@@ -26,14 +27,18 @@ TEST_SOURCES = $(wildcard host/tests/calls/*.c)
 TEST_NEEDS = $(TEST_SOURCES) $(wildcard host/tests/calls/*.h) host/pat.h host/host.mk $(PAT_ARCHIVE)
 TEST_BUILD = $(HOST_CC) $(HOST_FLAGS) $(HOST_SYSTEM) -g
 
-.PHONY: roundcard demo install uninstall host-test host-headers host-symbols host-calls host-trees host-tool host-installed FORCE
+# The parts of the test, which make check times one by one.
+HOST_TESTS = host-headers host-symbols host-stack host-manual host-calls-plain host-calls-sanitized host-calls-valgrind host-trees \
+    host-tool-plain host-tool-sanitized host-installed demo
+
+.PHONY: roundcard install uninstall host-test host-calls host-tool $(HOST_TESTS) FORCE
 
 roundcard: $(HOST_OUT)/roundcard
 
 # rt proves what goes into the archive. An archive from elsewhere is taken as it is.
 ifeq ($(PAT_ARCHIVE),target/staticlib/libpat.a)
 $(PAT_ARCHIVE): FORCE
-	rt staticlib pat
+	@host/staticlib.sh pat
 endif
 
 $(HOST_OUT)/roundcard: $(TOOL_NEEDS)
@@ -61,6 +66,11 @@ $(HOST_OUT)/faults.so: host/tests/tool/faults.c
 	@mkdir -p $(@D)
 	$(HOST_CC) $(HOST_FLAGS) -D_GNU_SOURCE -shared -fPIC $< -o $@
 
+# Bound before it starts, so that no call has a dynamic linker on its stack.
+$(HOST_OUT)/stack: host/tests/stack.c host/pat.h host/host.mk $(PAT_ARCHIVE)
+	@mkdir -p $(@D)
+	$(TEST_BUILD) $< $(PAT_ARCHIVE) -Wl,-z,now -o $@
+
 demo: $(HOST_OUT)/roundcard
 	host/demo.sh $<
 
@@ -82,7 +92,7 @@ uninstall:
 	rm -f $(DESTDIR)$(LIBDIR)/pkgconfig/pat.pc $(DESTDIR)$(COMPLETIONDIR)/roundcard
 	for page in $(MAN_PAGES); do rm -f $(DESTDIR)$(MANDIR)/man$${page##*.}/$${page##*/} || exit 1; done
 
-host-test: host-headers host-symbols host-calls host-trees host-tool host-installed demo
+host-test: $(HOST_TESTS)
 
 # The header in C and C++, and its attributes.
 host-headers: $(PAT_ARCHIVE)
@@ -92,11 +102,25 @@ host-headers: $(PAT_ARCHIVE)
 host-symbols: $(PAT_ARCHIVE)
 	host/tests/symbols.sh $(PAT_ARCHIVE)
 
+# The manual page of the library.
+host-manual: $(PAT_ARCHIVE)
+	CC='$(HOST_CC)' host/tests/manual.sh $(PAT_ARCHIVE)
+
+# The stack that each call needs.
+host-stack: $(HOST_OUT)/stack
+	$(HOST_OUT)/stack
+
 # The calls: on fenced pages, then under the sanitizers and under valgrind.
-host-calls: $(HOST_OUT)/calls $(HOST_OUT)/sanitized/calls
+host-calls: host-calls-plain host-calls-sanitized host-calls-valgrind
+
+host-calls-plain: $(HOST_OUT)/calls
 	python3 -B host/tests/known.py | cmp - host/tests/calls/known.h
 	$(HOST_OUT)/calls
+
+host-calls-sanitized: $(HOST_OUT)/sanitized/calls
 	PAT_TEST_EXACT=1 $(HOST_OUT)/sanitized/calls
+
+host-calls-valgrind: $(HOST_OUT)/calls
 	host/tests/valgrind.sh $(HOST_OUT)/calls
 
 # The benchmark's tree in plain C, over the CMACs of other libraries, beside the calls.
@@ -104,8 +128,12 @@ host-trees: $(PAT_ARCHIVE)
 	CC='$(HOST_CC)' bench/c/agree.sh $(PAT_ARCHIVE)
 
 # The tool on files, and the same with its memory watched.
-host-tool: $(HOST_OUT)/roundcard $(HOST_OUT)/sanitized/roundcard $(HOST_OUT)/faults.so $(HOST_OUT)/odd
+host-tool: host-tool-plain host-tool-sanitized
+
+host-tool-plain: $(HOST_OUT)/roundcard $(HOST_OUT)/faults.so $(HOST_OUT)/odd
 	ROUNDCARD=$(HOST_OUT)/roundcard FAULTS=$(HOST_OUT)/faults.so ODD=$(HOST_OUT)/odd python3 -B -m unittest discover -s host/tests/tool
+
+host-tool-sanitized: $(HOST_OUT)/sanitized/roundcard
 	ROUNDCARD=$(HOST_OUT)/sanitized/roundcard python3 -B -m unittest discover -s host/tests/tool
 
 # What make install leaves, used as somebody else would.

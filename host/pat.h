@@ -15,6 +15,16 @@
 // else may alter them during the call: a card that a device or another process can reach has to be
 // copied into memory of the caller's own first.
 //
+// Memory. A card is in memory whole, with 6,815,696 bytes at depth 16. Besides its buffers a call
+// needs at most PAT_STACK_BYTES of stack, at every depth, its arguments and return address
+// included, and nothing of a heap. A dynamic linker that finds memcpy only when a call needs it
+// takes more.
+//
+// Target. The archive is for x86-64: ELF objects, the System V calling convention with its red
+// zone, code that runs at any address. It uses the general registers and SSE2 with the registers
+// xmm0 to xmm15, which every such processor has; no x87, AVX or AES instruction is in it. Of a C
+// library it needs at most memcpy, memset, memmove and memcmp.
+//
 // Threads. The library has no state: no variable outlives a call, and no memory is allocated. Calls
 // on different memory may run at once, and so may reads and checks on the same memory.
 //
@@ -24,6 +34,7 @@
 // refused call leaves every byte of every buffer as it was.
 //
 // Nodes. The root is node 1, node u has the children 2u and 2u + 1, and block i is node 2^n + i.
+// The root is in the anchor, and all the others are on the card.
 //
 // Not promised: that blocks are secret, that calls take the same time for all keys and cards, and
 // that the stack has nothing of the key afterwards.
@@ -44,6 +55,15 @@ extern "C" {
 #define PAT_CALL
 #endif
 
+// The version of library and header.
+#define PAT_VERSION "0.2.0"
+#define PAT_VERSION_MAJOR 0
+#define PAT_VERSION_MINOR 2
+#define PAT_VERSION_PATCH 0
+
+// The stack that any call needs at most.
+#define PAT_STACK_BYTES 4096
+
 // An anchor: the key, then the depth and the root nonce as numbers of 8 bytes at these places.
 #define PAT_ANCHOR_BYTES 32
 #define PAT_KEY_BYTES 16
@@ -55,8 +75,15 @@ extern "C" {
 
 #define PAT_BLOCK_BYTES 64
 
-// What a write needs to list its ranges: 2 * depth of them, 8 bytes each; the maximum serves all.
-#define PAT_RANGE_BYTES(depth) ((size_t)16 * (size_t)(depth))
+// The length of a card, 104 * 2^depth - 48 bytes; 0 for a depth that is not 1 to 16. A constant
+// expression where the depth is one; the depth is evaluated more than once.
+#define PAT_CARD_BYTES(depth)                                                                      \
+    ((depth) >= 1 && (depth) <= PAT_MAX_DEPTH ? ((size_t)104 << ((depth)&31)) - 48 : (size_t)0)
+
+// How many ranges a write lists, and what it needs to list them, 8 bytes each; the maximum serves
+// all depths.
+#define PAT_RANGES(depth) ((size_t)2 * (size_t)(depth))
+#define PAT_RANGE_BYTES(depth) (8 * PAT_RANGES(depth))
 #define PAT_MAX_RANGE_BYTES 256
 
 // Why a call is refused. Behind the colon, who can mend it.
@@ -82,9 +109,59 @@ static inline uint64_t pat_node(uint64_t answer) {
     return answer / 256;
 }
 
-// The length of a card, 104 * 2^depth - 48 bytes; 0 for a depth that is not 1 to 16.
+// What an answer says, or a refusal number alone: a constant sentence without its full stop. It has
+// a text for what the library never answers, too.
+static inline const char *pat_refusal_text(uint64_t answer) {
+    switch (pat_refusal(answer) == PAT_REFUSED_TAG ? (uint64_t)PAT_REFUSED_TAG : answer) {
+    case PAT_ACCEPTED:
+        return "the call is accepted";
+    case PAT_REFUSED_DEPTH:
+        return "the depth is 0 or above 16";
+    case PAT_REFUSED_ROOT_NONCE:
+        return "the root nonce is no multiple of the depth";
+    case PAT_REFUSED_CARD_LENGTH:
+        return "the card has not the length of its depth";
+    case PAT_REFUSED_BLOCK_NUMBER:
+        return "the card has no block of that number";
+    case PAT_REFUSED_LENGTH:
+        return "the anchor has not 32 bytes, or the block not 64";
+    case PAT_REFUSED_RANGE_LENGTH:
+        return "the range buffer is too short";
+    case PAT_REFUSED_SPENT:
+        return "the root nonces are used up";
+    case PAT_REFUSED_TAG:
+        return "a tag on the card is wrong";
+    default:
+        return "this is no answer of the library";
+    }
+}
+
+// PAT_CARD_BYTES as a function.
 static inline size_t pat_card_bytes(uint64_t depth) {
-    return depth >= 1 && depth <= PAT_MAX_DEPTH ? ((size_t)104 << depth) - 48 : 0;
+    return PAT_CARD_BYTES(depth);
+}
+
+// What pat_first_block and pat_last_block give where there is no such node.
+#define PAT_NO_BLOCK UINT64_MAX
+
+// The block that is reached from a node by going to the same side, 0 or 1, at every level.
+static inline uint64_t pat_outer_block(uint64_t depth, uint64_t node, unsigned side) {
+    if (pat_card_bytes(depth) == 0 || node == 0 || node >> depth > 1)
+        return PAT_NO_BLOCK;
+    while (node >> depth == 0)
+        node = 2 * node + side;
+    return node - ((uint64_t)1 << depth);
+}
+
+// The first and the last block under a node of a card of that depth: of the root, all blocks; of a
+// block's own node, that block. PAT_NO_BLOCK for node 0, for a node of 2^(depth + 1) or above, and
+// for a depth that is not 1 to 16.
+static inline uint64_t pat_first_block(uint64_t depth, uint64_t node) {
+    return pat_outer_block(depth, node, 0);
+}
+
+static inline uint64_t pat_last_block(uint64_t depth, uint64_t node) {
+    return pat_outer_block(depth, node, 1);
 }
 
 // A number of 8 bytes, as an anchor has its depth and T.
@@ -157,11 +234,29 @@ struct pat_anchor {
     uint64_t root;
 };
 
-// pat_write on such an anchor: an accepted write moves its root nonce where it lies. The answers are
-// the same, but for the length of the anchor, which is not tested.
+// Such an anchor from the 32 bytes of the other form, and the 32 bytes from it. Depth and T are not
+// tested.
+static inline void pat_anchor_from_bytes(struct pat_anchor *anchor,
+                                         const uint8_t bytes[PAT_ANCHOR_BYTES]) {
+    for (int k = 0; k < PAT_KEY_BYTES; k++)
+        anchor->key[k] = bytes[k];
+    anchor->depth = pat_get_number(bytes + PAT_ANCHOR_DEPTH);
+    anchor->root = pat_get_number(bytes + PAT_ANCHOR_ROOT);
+}
+
+static inline void pat_anchor_to_bytes(const struct pat_anchor *anchor,
+                                       uint8_t bytes[PAT_ANCHOR_BYTES]) {
+    for (int k = 0; k < PAT_KEY_BYTES; k++)
+        bytes[k] = anchor->key[k];
+    pat_put_number(bytes + PAT_ANCHOR_DEPTH, anchor->depth);
+    pat_put_number(bytes + PAT_ANCHOR_ROOT, anchor->root);
+}
+
+// pat_write on such an anchor: an accepted write moves its root nonce where it lies. The answers
+// are the same, but for the length of the anchor, which is not tested.
 uint64_t pat_write_in_place(struct pat_anchor *anchor, uint8_t *card, size_t card_len,
-                            uint64_t index, const uint8_t *block, size_t block_len,
-                            uint8_t *ranges, size_t ranges_len) PAT_CALL;
+                            uint64_t index, const uint8_t *block, size_t block_len, uint8_t *ranges,
+                            size_t ranges_len) PAT_CALL;
 
 #ifdef __cplusplus
 }

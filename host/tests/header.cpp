@@ -3,14 +3,24 @@
 
 #include <array>
 #include <cstring>
-#include <vector>
+
+static const unsigned depth = 3;
+
+// A write on the anchor as a struct, and the anchor's bytes after it.
+static bool in_place(uint8_t *anchor, uint8_t *card, const uint8_t *block, uint8_t *ranges) {
+    pat_anchor own;
+    pat_anchor_from_bytes(&own, anchor);
+    uint64_t answer = pat_write_in_place(&own, card, pat_card_bytes(depth), 4, block,
+                                         PAT_BLOCK_BYTES, ranges, PAT_RANGE_BYTES(depth));
+    pat_anchor_to_bytes(&own, anchor);
+    return answer == PAT_ACCEPTED && own.root == 2 * depth;
+}
 
 int main() {
-    const unsigned depth = 3;
     std::array<uint8_t, PAT_ANCHOR_BYTES> anchor{};
     std::array<uint8_t, PAT_BLOCK_BYTES> block{}, buffer{};
     std::array<uint8_t, PAT_MAX_RANGE_BYTES> ranges{};
-    std::vector<uint8_t> card(pat_card_bytes(depth));
+    std::array<uint8_t, PAT_CARD_BYTES(depth)> card{};
 
     pat_put_number(anchor.data() + PAT_ANCHOR_DEPTH, depth);
     std::memcpy(block.data(), "a round", 7);
@@ -27,7 +37,11 @@ int main() {
                       buffer.size());
     if (answer != PAT_ACCEPTED || buffer != block)
         return 4;
+    if (!in_place(anchor.data(), card.data(), block.data(), ranges.data()))
+        return 5;
     card[96] ^= 1;
     answer = pat_check(anchor.data(), anchor.size(), card.data(), card.size());
-    return pat_refusal(answer) == PAT_REFUSED_TAG && pat_node(answer) == 6 ? 0 : 5;
+    bool refused = pat_refusal(answer) == PAT_REFUSED_TAG && pat_node(answer) == 6;
+    bool blocks = pat_first_block(depth, 6) == 4 && pat_last_block(depth, 6) == 5;
+    return refused && blocks && std::strlen(pat_refusal_text(answer)) > 0 ? 0 : 6;
 }

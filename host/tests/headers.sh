@@ -17,6 +17,13 @@ try() {
     count=$((count + 1))
 }
 
+# compile COMPILER STANDARD SOURCE: compiles it alone.
+compile() {
+    # shellcheck disable=SC2086
+    "$1" "-std=$2" $warnings -I"$here/.." -c "$3" -o "$room/object"
+    count=$((count + 1))
+}
+
 # misuse MACRO: the compiler must refuse that part of misuse.c, and nothing else of it.
 misuse() {
     # shellcheck disable=SC2086
@@ -29,17 +36,18 @@ misuse() {
 }
 
 for cc in "${CC:-gcc}" clang; do
-    command -v "$cc" >/dev/null || { echo "skipped: $cc is not here"; continue; }
+    command -v "$cc" >/dev/null || { echo "skipped: $cc is not here, so the header is not compiled with it"; continue; }
     for standard in c99 c11 c17; do
         try "$cc" "$standard" "$here/../example.c"
+        compile "$cc" "$standard" "$here/calls/header.c"
     done
-    # shellcheck disable=SC2086
-    "$cc" -std=c11 $warnings -I"$here/.." -c "$here/misuse.c" -o "$room/object"
+    compile "$cc" c11 "$here/misuse.c"
     misuse IGNORED_ANSWER 'unused-result'
     misuse NULL_POINTER 'nonnull'
+    misuse NO_DEPTH 'zero.size'
 done
 for cxx in "${CXX:-g++}" clang++; do
-    command -v "$cxx" >/dev/null || { echo "skipped: $cxx is not here"; continue; }
+    command -v "$cxx" >/dev/null || { echo "skipped: $cxx is not here, so the header is not compiled with it"; continue; }
     for standard in c++11 c++17 c++20; do
         try "$cxx" "$standard" "$here/header.cpp"
     done

@@ -1,6 +1,10 @@
-// Calls that a compiler with the header's attributes warns of; without either macro there is
-// nothing to warn of.
+// Calls and lengths that a compiler warns of; without any of the macros there is nothing to warn
+// of.
 #include "pat.h"
+
+#ifdef NO_DEPTH
+uint8_t no_card[PAT_CARD_BYTES(0)];
+#endif
 
 uint64_t use(const uint8_t *anchor, const uint8_t *card);
 

@@ -1,2 +1,3 @@
 -- What the functions for C do, over the outcomes of the tree's calls.
 pub mod Host
+pub mod RoundTrip

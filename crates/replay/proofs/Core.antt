@@ -85,7 +85,8 @@ module _ (T : Frame) where
       → m ≡ T .form x (I (v / 2)) (v % 2) → ⊥
   other-nonce {G} {H} k top v x o e =
       let f = k .fresh in
-      let q = same-nonce k top x (o .nonce) (v % 2) (omega (arith, o .high, f .low, f .high)) (e ∙ ap (λ (p : List ℕ). T .form x p (v % 2)) (o .is)) in
+      let q = same-nonce k top x (o .nonce) (v % 2) (omega (arith, o .high, f .low, f .high))
+      (e ∙ ap (λ (p : List ℕ). T .form x p (v % 2)) (o .is)) in
       omega (arith, o .high, f .low)
 
   says-below : {G H : ℕ} {J : Labels} {m : List ℕ} → Says G H J m → H ≤ 256 ^ 8 → (v : ℕ) (x : List ℕ) (s : ℕ) → s < 256 ^ 8
@@ -132,7 +133,8 @@ module _ (T : Frame) where
     event-old : {m : List ℕ} → Vouches G I m → Vouches H J m
     event-old {m} h = record { fits = λ v x node sized e. go v x node sized e (ev .each v node); below = raise (ev .grows) h .below }
       where
-        go : (v : ℕ) (x : List ℕ) → T .Node v → length x ≡ T .size v → m ≡ T .form x (J (v / 2)) (v % 2) → Keeps G I J v ⊎ Nonced G H J v → x ≡ J v
+        go : (v : ℕ) (x : List ℕ) → T .Node v → length x ≡ T .size v → m ≡ T .form x (J (v / 2)) (v % 2) → Keeps G I J v ⊎ Nonced G H J v
+            → x ≡ J v
         go v x node sized e (inl k) =
             h .fits v x node sized (e ∙ ap (λ (p : List ℕ). T .form x p (v % 2)) (k .parent)) ∙ sym (k .own)
         go v x node sized e (inr f) =
@@ -149,7 +151,8 @@ module _ (T : Frame) where
           below = λ v x s node sized small e. says-below k (ev .top) v x s small e;
         }
       where
-        go : (v : ℕ) (x : List ℕ) → T .Node v → length x ≡ T .size v → m ≡ T .form x (J (v / 2)) (v % 2) → Keeps G I J v ⊎ Nonced G H J v → x ≡ J v
+        go : (v : ℕ) (x : List ℕ) → T .Node v → length x ≡ T .size v → m ≡ T .form x (J (v / 2)) (v % 2) → Keeps G I J v ⊎ Nonced G H J v
+            → x ≡ J v
         go v x node sized e (inl o) =
             absurd (other-nonce k (ev .top) v x (o .was) (e ∙ ap (λ (p : List ℕ). T .form x p (v % 2)) (o .parent)))
         go v x node sized e (inr f) =

@@ -46,16 +46,16 @@ pub record History : Type 0 where
 abbrev pub history : ℕ → ℕ → ℕ → ℕ → History
 history n i u w =
     let s = start checksum (replicate 16 0) n (replicate (cardLength n) 0) in
-    let old = s .left in
+    let old = s .store .left in
     let writing = write i newBlock (replicate (16 * n) 0) in
     let t = next checksum s (record { card = old; call = writing }) in
-    let new = t .left in
+    let new = t .store .left in
     let mixed = older n old (older n old new u) w in
     let reading = read i (replicate 64 0) in
-    let a = t .anchor in
+    let a = t .store .anchor in
     record {
       answers =
-          answer (s .anchor) old writing
+          answer (s .store .anchor) old writing
           ∷ answer a new reading ∷ answer a new check
           ∷ answer a old reading ∷ answer a old check
           ∷ answer a mixed reading ∷ answer a mixed check ∷ [];
@@ -73,16 +73,7 @@ refusedAt oldRead oldCheck mixedRead mixedCheck =
       given = newBlock;
     }
 
--- both leaves are old
-pub depth-1 : history 1 0 2 3 ≡ refusedAt 2 2 2 2
+-- At depth 1 both leaves are old. At depths 2 and 3 the leaf and its parent are old, and right for each other.
+pub computed : (history 1 0 2 3 ≡ refusedAt 2 2 2 2) × (history 2 2 3 6 ≡ refusedAt 3 2 3 3) × (history 3 5 6 13 ≡ refusedAt 3 2 6 6)
 unfolding start next moved format formatAnswer zeroed limits firstFailing checks outcome answerOf firstWrong blanked written stamped labels blankLabels newLabels raised allNodes upTo pathNode sibling path pairs pairsButLeaf be size offset label tag form same rangesTo encode
-depth-1 = refl
-
--- the leaf and its parent are old, and right for each other
-pub depth-2 : history 2 2 3 6 ≡ refusedAt 3 2 3 3
-unfolding start next moved format formatAnswer zeroed limits firstFailing checks outcome answerOf firstWrong blanked written stamped labels blankLabels newLabels raised allNodes upTo pathNode sibling path pairs pairsButLeaf be size offset label tag form same rangesTo encode
-depth-2 = refl
-
-pub depth-3 : history 3 5 6 13 ≡ refusedAt 3 2 6 6
-unfolding start next moved format formatAnswer zeroed limits firstFailing checks outcome answerOf firstWrong blanked written stamped labels blankLabels newLabels raised allNodes upTo pathNode sibling path pairs pairsButLeaf be size offset label tag form same rangesTo encode
-depth-3 = refl
+computed = (refl, refl, refl)

@@ -1,9 +1,12 @@
+pub mod PlaceLaws
+pub mod Along
 pub mod Core
 pub mod Events
 pub mod Safe
 pub mod Moves
-pub mod Untouched
 pub mod Agreement
+pub mod Untouched
+pub mod Unforged
 pub mod Theorem
 pub mod OfCode
 pub mod Histories

@@ -10,16 +10,23 @@ use Rattle.tree.specs.Nodes.{pairs}
 use Rattle.tree.specs.Labels.{message, labels}
 use Rattle.tree.specs.Card.{written}
 use Rattle.tree.specs.Answer.{isWhole}
-use Rattle.tree.specs.Calls.{Call, read, write, check, rooted, answerOf, settled, outcome, isWrite}
+use Rattle.tree.specs.Calls.{Call, read, write, check, rooted, Outcome, answerOf, settled, outcome, isWrite}
 use Rattle.tree.specs.declared.Anchor.{Anchor}
 use Rattle.tree.specs.declared.Answer.{Answer}
 use Rattle.tree.specs.declared.Answer.the-variants.{Whole, Wrong, Refused}
 use Rattle.tree.proofs.CallLaws.{outcome-key}
 use Rattle.replay.specs.Array.{moved}
-use Rattle.replay.specs.Run.{Step, State, moves, next, after, writes}
+use Rattle.replay.specs.Run.{Step, Store, State, moves, newTags, result, next, after, writes}
+
+-- what a call with an outcome makes of a state
+abbrev by : State → Call → Outcome → State
+by s c o = record { store = moves (s .store) c o; tagged = newTags c o ++ s .tagged }
 
 module _ (F : List ℕ → List ℕ) (s : State) (card : List ℕ) where
-  refused-still : (c : Call) (o : Answer) → (o ≡ Whole → ⊥) → moves F s c (settled F o (s .anchor) card c) ≡ s
+  abbrev a : Anchor
+  a = s .store .anchor
+
+  refused-still : (c : Call) (o : Answer) → (o ≡ Whole → ⊥) → by s c (settled F o (s .store .anchor) card c) ≡ s
   unfolding moved
   refused-still c Whole d = absurd (d refl)
   refused-still (read i buffer) (Wrong u) d = refl
@@ -30,17 +37,17 @@ module _ (F : List ℕ → List ℕ) (s : State) (card : List ℕ) where
   refused-still check (Refused r) d = refl
 
   -- a refused call moves nothing
-  pub refused : (c : Call) → (answerOf F (s .anchor) card c ≡ Whole → ⊥) → next F s (record { card = card; call = c }) ≡ s
+  pub refused : (c : Call) → (answerOf F (s .store .anchor) card c ≡ Whole → ⊥) → next F s (record { card = card; call = c }) ≡ s
   unfolding next outcome
-  refused c d = refused-still c (answerOf F (s .anchor) card c) d
+  refused c d = refused-still c (answerOf F a card c) d
 
-  read-still : (i : ℕ) (buffer : List ℕ) (o : Answer) → moves F s (read i buffer) (settled F o (s .anchor) card (read i buffer)) ≡ s
+  read-still : (i : ℕ) (buffer : List ℕ) (o : Answer) → by s (read i buffer) (settled F o (s .store .anchor) card (read i buffer)) ≡ s
   unfolding moved
   read-still i buffer Whole = refl
   read-still i buffer (Wrong u) = refl
   read-still i buffer (Refused r) = refl
 
-  check-still : (o : Answer) → moves F s check (settled F o (s .anchor) card check) ≡ s
+  check-still : (o : Answer) → by s check (settled F o (s .store .anchor) card check) ≡ s
   unfolding moved
   check-still Whole = refl
   check-still (Wrong u) = refl
@@ -49,56 +56,58 @@ module _ (F : List ℕ → List ℕ) (s : State) (card : List ℕ) where
   -- nor does a read or a check
   pub read-moves : (i : ℕ) (buffer : List ℕ) → next F s (record { card = card; call = read i buffer }) ≡ s
   unfolding next outcome
-  read-moves i buffer = read-still i buffer (answerOf F (s .anchor) card (read i buffer))
+  read-moves i buffer = read-still i buffer (answerOf F a card (read i buffer))
 
   pub check-moves : next F s (record { card = card; call = check }) ≡ s
   unfolding next outcome
-  check-moves = check-still (answerOf F (s .anchor) card check)
+  check-moves = check-still (answerOf F a card check)
 
   abbrev pub wrote : ℕ → List ℕ → State
   wrote i block =
-      let n = s .anchor .depth in
-      let t = s .anchor .root .0 in
+      let n = s .store .anchor .depth in
+      let t = s .store .anchor .root .0 in
       let left = written F n t t card i block in
       record {
-        anchor = rooted (s .anchor) (t + n);
-        array = set (s .array) i block;
+        store = record { anchor = rooted (s .store .anchor) (t + n); array = set (s .store .array) i block; left = left };
         tagged = map (message (labels n (t + n) left)) (pairs n i) ++ s .tagged;
-        left = left;
       }
 
   -- an accepted write does
-  pub write-moves : (i : ℕ) (block ranges : List ℕ) → answerOf F (s .anchor) card (write i block ranges) ≡ Whole
+  pub write-moves : (i : ℕ) (block ranges : List ℕ) → answerOf F (s .store .anchor) card (write i block ranges) ≡ Whole
       → next F s (record { card = card; call = write i block ranges }) ≡ wrote i block
   unfolding next outcome moved
-  write-moves i block ranges e = ap (λ (o : Answer). moves F s (write i block ranges) (settled F o (s .anchor) card (write i block ranges))) e
+  write-moves i block ranges e = ap (λ (o : Answer). by s (write i block ranges) (settled F o a card (write i block ranges))) e
 
 -- A call leaves what is known as it was, or is an accepted write.
 pub data Move (F : List ℕ → List ℕ) (s : State) (card : List ℕ) : Call → Type 0 where
   still : {c : Call} → next F s (record { card = card; call = c }) ≡ s → Move F s card c
-  wrote-block : (i : ℕ) (block ranges : List ℕ) → answerOf F (s .anchor) card (write i block ranges) ≡ Whole
+  wrote-block : (i : ℕ) (block ranges : List ℕ) → answerOf F (s .store .anchor) card (write i block ranges) ≡ Whole
       → next F s (record { card = card; call = write i block ranges }) ≡ wrote F s card i block → Move F s card (write i block ranges)
 
 pub move : (F : List ℕ → List ℕ) (s : State) (card : List ℕ) (c : Call) → Move F s card c
 move F s card (read i buffer) = still (read-moves F s card i buffer)
 move F s card check = still (check-moves F s card)
-move F s card (write i block ranges) = go (answerOf F (s .anchor) card (write i block ranges)) refl
+move F s card (write i block ranges) = go (answerOf F (s .store .anchor) card (write i block ranges)) refl
   where
-    not-whole : (o : Answer) → answerOf F (s .anchor) card (write i block ranges) ≡ o → (o ≡ Whole → ⊥) → Move F s card (write i block ranges)
+    not-whole : (o : Answer) → answerOf F (s .store .anchor) card (write i block ranges) ≡ o → (o ≡ Whole → ⊥)
+        → Move F s card (write i block ranges)
     not-whole o e d = still (refused F s card (write i block ranges) (λ p. d (sym e ∙ p)))
 
-    go : (o : Answer) → answerOf F (s .anchor) card (write i block ranges) ≡ o → Move F s card (write i block ranges)
+    go : (o : Answer) → answerOf F (s .store .anchor) card (write i block ranges) ≡ o → Move F s card (write i block ranges)
     go Whole e = wrote-block i block ranges e (write-moves F s card i block ranges e)
     go (Wrong u) e = not-whole (Wrong u) e (λ p. let z : _≡_ {A = ℕ} 0 1 = cc in omega arith)
     go (Refused r) e = not-whole (Refused r) e (λ p. let z : _≡_ {A = ℕ} 0 1 = cc in omega arith)
 
--- Key and depth stay.
 module _ (F : List ℕ → List ℕ) where
-  next-key : (s : State) (x : Step) → (next F s x .anchor .key ≡ s .anchor .key) × (next F s x .anchor .depth ≡ s .anchor .depth)
-  unfolding next
-  next-key s x = outcome-key F (s .anchor) (x .card) (x .call)
+  -- Key and depth stay.
 
-  pub after-key : (xs : List Step) (s : State) → (after F s xs .anchor .key ≡ s .anchor .key) × (after F s xs .anchor .depth ≡ s .anchor .depth)
+  next-key : (s : State) (x : Step)
+      → (next F s x .store .anchor .key ≡ s .store .anchor .key) × (next F s x .store .anchor .depth ≡ s .store .anchor .depth)
+  unfolding next
+  next-key s x = outcome-key F (s .store .anchor) (x .card) (x .call)
+
+  pub after-key : (xs : List Step) (s : State)
+      → (after F s xs .store .anchor .key ≡ s .store .anchor .key) × (after F s xs .store .anchor .depth ≡ s .store .anchor .depth)
   unfolding after
   after-key [] s = (refl, refl)
   after-key (x ∷ xs) s =
@@ -107,6 +116,7 @@ module _ (F : List ℕ → List ℕ) where
       (p .0 ∙ q .0, p .1 ∙ q .1)
 
   -- The root nonce is n times the accepted writes.
+
   settled-root : (a : Anchor) (card : List ℕ) (c : Call) (o : Answer)
       → settled F o a card c .anchor .root .0 ≡ a .root .0 + cond (isWhole (settled F o a card c .answer) && isWrite c) 1 0 * a .depth
   settled-root a card (read i buffer) Whole = omega arith
@@ -115,21 +125,24 @@ module _ (F : List ℕ → List ℕ) where
   settled-root a card c (Wrong u) = omega arith
   settled-root a card c (Refused r) = omega arith
 
-  next-root : (s : State) (x : Step)
-      → next F s x .anchor .root .0
-      ≡ s .anchor .root .0 + cond (isWhole (outcome F (s .anchor) (x .card) (x .call) .answer) && isWrite (x .call)) 1 0 * s .anchor .depth
-  unfolding next outcome
-  next-root s x = settled-root (s .anchor) (x .card) (x .call) (answerOf F (s .anchor) (x .card) (x .call))
+  -- 1 for an accepted write
+  abbrev counted : Store → Step → ℕ
+  counted s x = cond (isWhole (result F s x .answer) && isWrite (x .call)) 1 0
 
-  pub after-root : (xs : List Step) (s : State) → after F s xs .anchor .root .0 ≡ s .anchor .root .0 + writes F s xs * s .anchor .depth
+  next-root : (s : State) (x : Step)
+      → next F s x .store .anchor .root .0 ≡ s .store .anchor .root .0 + counted (s .store) x * s .store .anchor .depth
+  unfolding next outcome
+  next-root s x = settled-root (s .store .anchor) (x .card) (x .call) (answerOf F (s .store .anchor) (x .card) (x .call))
+
+  pub after-root : (xs : List Step) (s : State)
+      → after F s xs .store .anchor .root .0 ≡ s .store .anchor .root .0 + writes F s xs * s .store .anchor .depth
   unfolding after writes
   after-root [] s = omega arith
   after-root (x ∷ xs) s =
-      let w : ℕ = cond (isWhole (outcome F (s .anchor) (x .card) (x .call) .answer) && isWrite (x .call)) 1 0 in
       let k = writes F (next F s x) xs in
-      let n = s .anchor .depth in
+      let n = s .store .anchor .depth in
       after-root xs (next F s x) ∙ ap₂ (λ (t m : ℕ). t + k * m) (next-root s x) (next-key s x .1)
-      ∙ sum (s .anchor .root .0) w k n
+      ∙ sum (s .store .anchor .root .0) (counted (s .store) x) k n
     where
       sum : (t w k n : ℕ) → t + w * n + k * n ≡ t + (w + k) * n
       sum t w k n = let e = add-mul w k n in omega arith

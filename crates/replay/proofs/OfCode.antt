@@ -1,11 +1,11 @@
 -- Demand 3 of the code: every call that ran is a step of the list that the theorem speaks of, by the contracts alone.
-use mathlib.Core.Path.{_≡_, refl, sym, ap, subst, _∙_}
-use mathlib.Core.List.{List, [], _∷_, _++_, map}
+use mathlib.Core.Path.{_≡_, refl, sym, subst, _∙_}
+use mathlib.Core.List.{List, [], _∷_}
 use Prim.Native.Nat.{ℕ}
 use denote.Ref.{now}
 use Rattle.cmac.specs.Cmac.{cmacOf}
 use Rattle.tree.specs.Layout.{IsCard}
-use Rattle.tree.specs.Calls.{read, write, check, Gives, outcome, format}
+use Rattle.tree.specs.Calls.{read, write, check, Gives, format}
 use Rattle.tree.specs.declared.Anchor.{Anchor}
 use Rattle.tree.specs.declared.Answer.the-variants.{Whole}
 use Rattle.tree.proofs.CallLaws.{outcome-key, format-in}
@@ -13,9 +13,11 @@ use Rattle.calls.proofs.format.Reads as format-code
 use Rattle.calls.proofs.read.Reads as read-code
 use Rattle.calls.proofs.write.Reads as write-code
 use Rattle.calls.proofs.check.Reads as check-code
-use Rattle.replay.specs.Run.{State, start, next, after}
-use Rattle.replay.specs.Ran.{Ran, Meets, Formatted, History, Demand3Of}
-use Rattle.replay.proofs.Theorem.{demand3}
+use Rattle.replay.specs.Places.{Place}
+use Rattle.replay.specs.Run.{State, start, result, next, after}
+use Rattle.replay.specs.Ran.{Ran, steps, Meets, Formatted, History, Demand3Of}
+use Rattle.replay.proofs.PlaceLaws.{no-place, at-places}
+use Rattle.replay.proofs.Theorem.{demand3, unforged}
 
 -- What a contract says of a call that returned: x is what it was given, r what it answered, e what it left.
 
@@ -58,40 +60,49 @@ check-ran κs x r e learnt = learnt
 
 -- Each call of a history is a step: what it answered and left is the outcome that the list has at its place.
 module _ (key : List ℕ) where
-  follows : (s : State) → s .anchor .key ≡ key → (before : List Ran) (r : Ran) (behind : List Ran) → History (s .anchor) (before ++ (r ∷ behind))
-      → Gives (outcome (cmacOf key) (after (cmacOf key) s (map (λ (q : Ran). q .step) before) .anchor) (r .step .card) (r .step .call))
-      (r .answer) (r .anchor) (r .card) (r .lent)
+  abbrev F : List ℕ → List ℕ
+  F = cmacOf key
+
+  -- what a call gave back, after the calls before it
+  abbrev Tells : State → List Ran → Ran → Type 0
+  Tells s before r = Gives (result F (after F s (steps before) .store) (r .step)) (r .answer) (r .anchor) (r .card) (r .lent)
+
+  follows : (rs : List Ran) (s : State) → s .store .anchor .key ≡ key → History (s .store .anchor) rs → (p : Place rs)
+      → Tells s (p .before) (p .item)
   unfolding after next
-  follows s k [] r behind h =
-      subst (λ (m : List ℕ). Gives (outcome (cmacOf m) (s .anchor) (r .step .card) (r .step .call)) (r .answer) (r .anchor) (r .card) (r .lent)) k (h .0)
-  follows s k (q ∷ before) r behind h =
-      follows (next (cmacOf key) s (q .step)) (kept ∙ k) before r behind
-      (subst (λ (a : Anchor). History a (before ++ (r ∷ behind))) (moved (h .0)) (h .1))
+  follows [] s k h = λ p. absurd (no-place p)
+  follows (r ∷ rs) s k h =
+      at-places (Tells s) r rs here
+      (follows rs (next F s (r .step)) (kept ∙ k) (subst (λ (a : Anchor). History a rs) moved (h .1)))
     where
-      moved : Meets (s .anchor) q → q .anchor ≡ next (cmacOf key) s (q .step) .anchor
-      moved m = m .anchored ∙ ap (λ (l : List ℕ). outcome (cmacOf l) (s .anchor) (q .step .card) (q .step .call) .anchor) k
+      here : Gives (result F (s .store) (r .step)) (r .answer) (r .anchor) (r .card) (r .lent)
+      here =
+          subst (λ (m : List ℕ). Gives (result (cmacOf m) (s .store) (r .step)) (r .answer) (r .anchor) (r .card) (r .lent)) k (h .0)
 
-      kept : next (cmacOf key) s (q .step) .anchor .key ≡ s .anchor .key
-      kept = outcome-key (cmacOf key) (s .anchor) (q .step .card) (q .step .call) .0
+      moved : r .anchor ≡ next F s (r .step) .store .anchor
+      moved = here .anchored
 
-module _ (key : List ℕ) (n : ℕ) (card : List ℕ) (a : Anchor) (left : List ℕ) (made : Formatted key n card Whole a left) (rs : List Ran) (ran : History a rs) where
+      kept : next F s (r .step) .store .anchor .key ≡ s .store .anchor .key
+      kept = outcome-key F (s .store .anchor) (r .step .card) (r .step .call) .0
+
+module _ (key : List ℕ) (n : ℕ) (card : List ℕ) (a : Anchor) (left : List ℕ) (made : Formatted key n card Whole a left) (rs : List Ran)
+    (ran : History a rs) where
   accepted : IsCard n card
   unfolding format
   accepted = format-in n card (sym (made .answered))
 
-  begun : a ≡ start (cmacOf key) key n card .anchor
+  begun : a ≡ start (cmacOf key) key n card .store .anchor
   unfolding start
   begun = made .anchored
 
-  keyed : start (cmacOf key) key n card .anchor .key ≡ key
+  keyed : start (cmacOf key) key n card .store .anchor .key ≡ key
   unfolding start format
   keyed = refl
 
   pub demand3-of-code : Demand3Of key n card rs
   demand3-of-code =
       record {
-        demand = demand3 key n (accepted .deep) (accepted .shallow) card (accepted .full) (map (λ (r : Ran). r .step) rs);
-        told = λ before r behind e.
-            follows key (start (cmacOf key) key n card) keyed before r behind
-            (subst (History (start (cmacOf key) key n card .anchor)) e (subst (λ (b : Anchor). History b rs) begun ran));
+        demand = demand3 key n (accepted .deep) (accepted .shallow) card (accepted .full) (steps rs);
+        unforged = unforged key n (accepted .deep) (accepted .shallow) card (accepted .full) (steps rs);
+        told = follows key rs (start (cmacOf key) key n card) keyed (subst (λ (b : Anchor). History b rs) begun ran);
       }

@@ -14,8 +14,10 @@ use Rattle.tree.specs.Layout.{IsNode, cardLength, label}
 use Rattle.tree.specs.Nodes.{pathNode, pairs, allNodes}
 use Rattle.tree.specs.Labels.{Labels, message, labels, blankLabels, newLabels}
 use Rattle.tree.specs.Card.{blanked, written}
-use Rattle.tree.proofs.NodeLaws.{path-root, path-leaf, path-parent, path-node, Off, pairs-child, child-node, path-pairs, inner-not-leaf, among-node}
-use Rattle.tree.proofs.LabelLaws.{Sized, message-same, labels-root, labels-below, labels-sized, blank-root, blank-leaf, blank-sized, new-root, new-same, new-sized, new-block}
+use Rattle.tree.proofs.NodeLaws.{path-root, path-leaf, path-parent, path-node, Off, pairs-child, child-node, path-pairs, inner-not-leaf}
+use Rattle.tree.proofs.NodeLaws.{among-node}
+use Rattle.tree.proofs.LabelLaws.{Sized, message-same, labels-root, labels-below, labels-sized, blank-root, blank-leaf, blank-sized}
+use Rattle.tree.proofs.LabelLaws.{new-root, new-same, new-sized, new-block}
 use Rattle.tree.proofs.WriteLaws.{blanked-message, written-message}
 use Rattle.replay.specs.Array.{Array, zeroed, blockAt}
 use Rattle.replay.proofs.Core.{Event, AllVouch, AllNonced, Says, down, none-vouch, event-vouch, event-nonced}
@@ -44,23 +46,32 @@ module _ (F : List ℕ → List ℕ) (F16 : (m : List ℕ) → length (F m) ≡ 
       record {
         ideal = I;
         root = blank-root n 0 deep;
-        vouch = subst (λ (M : List (List ℕ)). AllVouch (frame n) 1 I M) (append-nil N) (event-vouch (frame n) ev N [] says (none-vouch (frame n) I));
+        vouch = subst (λ (M : List (List ℕ)). AllVouch (frame n) 1 I M) (append-nil N)
+            (event-vouch (frame n) ev N [] says (none-vouch (frame n) I));
         nonced = event-nonced (frame n) ev;
         sized = blank-sized n 0;
         count = length-replicate (2 ^ n) (replicate 64 0);
         blocks = λ i h. blank-leaf n 0 (2 ^ n + i) (omega arith) ∙ sym (getD-replicate (2 ^ n) i (replicate 64 0) [] h);
       }
     where
-      says : (m : List ℕ) → List·Memᴰ m (map (message (labels n 0 (blanked F n 0 card))) (allNodes n)) → Says (frame n) 0 1 (blankLabels n 0) m
+      says : (m : List ℕ) → List·Memᴰ m (map (message (labels n 0 (blanked F n 0 card))) (allNodes n))
+          → Says (frame n) 0 1 (blankLabels n 0) m
       says m h =
           let k = Memᴰ·of-map (message (labels n 0 (blanked F n 0 card))) (allNodes n) h in
           let u = k .0 in
           let node = among-node n u (k .1) in
-          record { node = u; is-node = node; fresh = blank-nonced n 0 u node; is = sym (k .2) ∙ blanked-message F F16 n deep 0 card full u node }
+          record {
+            node = u;
+            is-node = node;
+            fresh = blank-nonced n 0 u node;
+            is = sym (k .2)
+                ∙ blanked-message F F16 n deep 0 card full u node;
+          }
 
 -- A card of the right length, read with the root nonce t
 
-module _ {n H : ℕ} {M : List (List ℕ)} {t : ℕ} {array : Array} (p : Backs n H M t array) (card : List ℕ) (full : length card ≡ cardLength n) where
+module _ {n H : ℕ} {M : List (List ℕ)} {t : ℕ} {array : Array} (p : Backs n H M t array) (card : List ℕ)
+    (full : length card ≡ cardLength n) where
   abbrev C : Labels
   C = labels n t card
 
@@ -109,7 +120,8 @@ module _ {n H : ℕ} {M : List (List ℕ)} {t : ℕ} {array : Array} (p : Backs 
 
 -- After a write: t is the root nonce that the card was read with, and r the last nonce used
 
-module _ (F : List ℕ → List ℕ) (F16 : (m : List ℕ) → length (F m) ≡ 16) (n : ℕ) (deep : 1 ≤ n) (t r : ℕ) (card : List ℕ) (full : length card ≡ cardLength n) (i : ℕ) (inside : i < 2 ^ n) (b : List ℕ) (long : length b ≡ 64) where
+module _ (F : List ℕ → List ℕ) (F16 : (m : List ℕ) → length (F m) ≡ 16) (n : ℕ) (deep : 1 ≤ n) (t r : ℕ) (card : List ℕ)
+    (full : length card ≡ cardLength n) (i : ℕ) (inside : i < 2 ^ n) (b : List ℕ) (long : length b ≡ 64) where
   abbrev new : List (List ℕ)
   new = map (message (labels n (r + n) (written F n t r card i b))) (pairs n i)
 

@@ -2,69 +2,83 @@
 use Prim.Native.Nat.{ℕ, _+_, _^_, _<_}
 use mathlib.Core.Path.{_≡_}
 use mathlib.Core.Bool.{true}
-use mathlib.Core.List.{List, _∷_, _++_, List·Memᴰ}
+use mathlib.Core.List.{List, List·Memᴰ}
 use mathlib.Core.Logic.{_⊎_}
 use Rattle.tree.specs.Layout.{label, tag}
 use Rattle.tree.specs.Labels.{message, labels}
-use Rattle.tree.specs.Calls.{Call, read, write, check, checks, Outcome, outcome, isWrite}
+use Rattle.tree.specs.Calls.{Call, read, write, check, checks, isWrite}
 use Rattle.tree.specs.declared.Node.{Node}
 use Rattle.tree.specs.declared.Answer.the-variants.{Whole, Wrong}
-use Rattle.replay.specs.Array.{blockAt}
-use Rattle.replay.specs.Run.{Step, State, after}
+use Rattle.replay.specs.Array.{Array, blockAt}
+use Rattle.replay.specs.Places.{Place}
+use Rattle.replay.specs.Run.{Step, Store, State, result, after}
 
--- a call of a list, with the calls before it and those behind
-pub record Place (xs : List Step) : Type 0 where
-  pub before : List Step
-  pub step : Step
-  pub behind : List Step
-  pub is : xs ≡ before ++ (step ∷ behind)
+-- What a call on a card of depth n showed is what the array holds: the bytes that a read gave, and every block on the card of a check.
+abbrev pub Agrees : ℕ → Array → List ℕ → List ℕ → Call → Type 0
+Agrees n array card given (read i buffer) = given ≡ blockAt array i
+Agrees n array card given (write i block ranges) = Unit {0}
+Agrees n array card given check = (i : ℕ) → i < 2 ^ n → label n card (2 ^ n + i) ≡ blockAt array i
 
--- What a call showed is what the array holds: the bytes that a read gave, and every block on the card of a check.
-abbrev pub Agrees : State → List ℕ → List ℕ → Call → Type 0
-Agrees s card given (read i buffer) = given ≡ blockAt (s .array) i
-Agrees s card given (write i block ranges) = Unit {0}
-Agrees s card given check =
-    (i : ℕ) → i < 2 ^ s .anchor .depth → label (s .anchor .depth) card (2 ^ s .anchor .depth + i) ≡ blockAt (s .array) i
+-- the call is given the card as last left
+abbrev pub Untouched : Store → Step → Type 0
+Untouched s x = x .card ≡ s .left
+
+-- the message of node u as a call sees it
+abbrev pub seen : Store → Step → ℕ → List ℕ
+seen s x u = message (labels (s .anchor .depth) (s .anchor .root .0) (x .card)) u
+
+-- every message that a call checks was tagged before it
+abbrev pub ChecksTagged : State → Step → Type 0
+ChecksTagged s x = (u : ℕ) → List·Memᴰ u (checks (s .store .anchor .depth) (x .call)) → List·Memᴰ (seen (s .store) x u) (s .tagged)
+
+module _ (F : List ℕ → List ℕ) where
+  abbrev pub Accepted : Store → Step → Type 0
+  Accepted s x = result F s x .answer ≡ Whole
+
+  -- if it is accepted, it agrees with the array
+  abbrev pub AgreesHere : State → Step → Type 0
+  AgreesHere s x =
+      Accepted (s .store) x → Agrees (s .store .anchor .depth) (s .store .array) (x .card) (result F (s .store) x .lent) (x .call)
+
+  -- it was accepted and checked a message that nothing before it tagged
+  pub record Forged (s : State) (x : Step) : Type 0 where
+    pub accepted : Accepted (s .store) x
+    pub node : ℕ
+    pub checked : List·Memᴰ node (checks (s .store .anchor .depth) (x .call))
+    pub right : F (seen (s .store) x node) ≡ tag (s .store .anchor .depth) (x .card) node
+    pub untagged : List·Memᴰ (seen (s .store) x node) (s .tagged) → ⊥
+
+  -- if it is an accepted write, it had an untouched card
+  abbrev pub WroteUntouched : State → Step → Type 0
+  WroteUntouched s x = Accepted (s .store) x → isWrite (x .call) ≡ true → Untouched (s .store) x
 
 module _ (F : List ℕ → List ℕ) (s₀ : State) where
   -- what is known before a call
   abbrev pub known : {xs : List Step} → Place xs → State
   known p = after F s₀ (p .before)
 
-  abbrev pub result : {xs : List Step} → Place xs → Outcome
-  result p = outcome F (known p .anchor) (p .step .card) (p .step .call)
-
-  abbrev pub Accepted : {xs : List Step} → Place xs → Type 0
-  Accepted p = result p .answer ≡ Whole
+  -- of every call of a list
+  abbrev pub Everywhere : List Step → (State → Step → Type 0) → Type 0
+  Everywhere xs P = (p : Place xs) → P (known p) (p .item)
 
   -- every accepted read and check agrees with the array
   abbrev pub Agreement : List Step → Type 0
-  Agreement xs = (p : Place xs) → Accepted p → Agrees (known p) (p .step .card) (result p .lent) (p .step .call)
+  Agreement xs = Everywhere xs (AgreesHere F)
 
-  -- the message of node u as a call sees it
-  abbrev pub seen : {xs : List Step} → Place xs → ℕ → List ℕ
-  seen p u = message (labels (known p .anchor .depth) (known p .anchor .root .0) (p .step .card)) u
-
-  -- an accepted call checked a message that nothing before it tagged
+  -- a call of the list forged
   pub record Forgery (xs : List Step) : Type 0 where
     pub place : Place xs
-    pub accepted : Accepted place
-    pub node : ℕ
-    pub checked : List·Memᴰ node (checks (known place .anchor .depth) (place .step .call))
-    pub right : F (seen place node) ≡ tag (known place .anchor .depth) (place .step .card) node
-    pub untagged : List·Memᴰ (seen place node) (known place .tagged) → ⊥
+    pub forged : Forged F (known place) (place .item)
 
-  -- the call is given the card as last left
-  abbrev pub Untouched : {xs : List Step} → Place xs → Type 0
-  Untouched p = p .step .card ≡ known p .left
+  -- every accepted write had an untouched card
+  abbrev pub Faithful : List Step → Type 0
+  Faithful xs = Everywhere xs (WroteUntouched F)
 
   -- where every accepted write before a call had an untouched card, and so has the call, it is not refused for a tag
   abbrev pub Quiet : List Step → Type 0
   Quiet xs =
-      (p : Place xs)
-      → ((q : Place (p .before)) → Accepted q → isWrite (q .step .call) ≡ true → Untouched q)
-      → Untouched p
-      → (u : Node) → result p .answer ≡ Wrong u → ⊥
+      (p : Place xs) → Faithful (p .before) → Untouched (known p .store) (p .item)
+      → (u : Node) → result F (known p .store) (p .item) .answer ≡ Wrong u → ⊥
 
   pub record Demand3 (xs : List Step) : Type 0 where
     pub safe : Agreement xs ⊎ Forgery xs

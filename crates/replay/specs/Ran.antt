@@ -1,13 +1,15 @@
 -- Calls of the code as they ran: what each was given and what it gave back, as its contract has it.
 use mathlib.Core.Path.{_≡_}
-use mathlib.Core.List.{List, [], _∷_, _++_, map}
+use mathlib.Core.List.{List, [], _∷_, map}
 use Prim.Native.Nat.{ℕ}
 use Rattle.cmac.specs.Cmac.{cmacOf}
 use Rattle.tree.specs.Calls.{Gives, outcome, format}
 use Rattle.tree.specs.declared.Anchor.{Anchor}
 use Rattle.tree.specs.declared.Answer.{Answer}
-use Rattle.replay.specs.Run.{Step, start, after}
+use Rattle.replay.specs.Places.{Place}
+use Rattle.replay.specs.Run.{Step, start, result, after}
 use Rattle.replay.specs.Claim.{Demand3}
+use Rattle.replay.specs.Tagged.{Unforged}
 
 pub record Ran : Type 0 where
   -- the card and the call that it was given
@@ -17,6 +19,9 @@ pub record Ran : Type 0 where
   pub anchor : Anchor
   pub card : List ℕ
   pub lent : List ℕ
+
+abbrev pub steps : List Ran → List Step
+steps rs = map (λ (r : Ran). r .step) rs
 
 -- what the contract says of a call that was given the anchor a
 abbrev pub Meets : Anchor → Ran → Type 0
@@ -31,9 +36,11 @@ abbrev pub History : Anchor → List Ran → Type 0
 History a [] = Unit {0}
 History a (r ∷ rs) = Meets a r × History (r .anchor) rs
 
--- Of the calls that ran after a format: demand 3 holds of their list, and each answered and left what the list has at its place.
+-- Of the calls that ran after a format: demand 3 holds of their list, what is tagged is as stated, and each call answered and left what
+-- the list has at its place.
 pub record Demand3Of (key : List ℕ) (n : ℕ) (card : List ℕ) (rs : List Ran) : Type 0 where
-  pub demand : Demand3 (cmacOf key) (start (cmacOf key) key n card) (map (λ (r : Ran). r .step) rs)
-  pub told : (before : List Ran) (r : Ran) (behind : List Ran) → rs ≡ before ++ (r ∷ behind)
-      → Gives (outcome (cmacOf key) (after (cmacOf key) (start (cmacOf key) key n card) (map (λ (q : Ran). q .step) before) .anchor) (r .step .card) (r .step .call))
-      (r .answer) (r .anchor) (r .card) (r .lent)
+  pub demand : Demand3 (cmacOf key) (start (cmacOf key) key n card) (steps rs)
+  pub unforged : Unforged (cmacOf key) (start (cmacOf key) key n card) n (steps rs)
+  pub told : (p : Place rs)
+      → Gives (result (cmacOf key) (after (cmacOf key) (start (cmacOf key) key n card) (steps (p .before)) .store) (p .item .step))
+      (p .item .answer) (p .item .anchor) (p .item .card) (p .item .lent)

@@ -31,35 +31,50 @@ tags n check = []
 abbrev pub messages : Anchor → List ℕ → List ℕ → List (List ℕ)
 messages a card us = map (message (labels (a .depth) (a .root .0) card)) us
 
-pub record State : Type 0 where
+-- what is known of a store
+pub record Store : Type 0 where
   -- as the last call returned it
   pub anchor : Anchor
   pub array : Array
-  -- every message tagged so far (document 01: marked messages)
-  pub tagged : List (List ℕ)
   -- the card as the format or the last accepted write left it
   pub left : List ℕ
 
+pub record State : Type 0 where
+  pub store : Store
+  -- every message tagged so far (document 01: marked messages)
+  pub tagged : List (List ℕ)
+
+-- the store that a call moves to, whose outcome is o
+abbrev pub moves : Store → Call → Outcome → Store
+moves s c o =
+    record {
+      anchor = o .anchor;
+      array = moved (s .array) (told c) (isWhole (o .answer));
+      left = cond (isWhole (o .answer) && isWrite c) (o .card) (s .left);
+    }
+
+-- the messages that it tags: those of its nodes, on the card that it left and with its new root nonce
+abbrev pub newTags : Call → Outcome → List (List ℕ)
+newTags c o = cond (isWhole (o .answer)) (messages (o .anchor) (o .card) (tags (o .anchor .depth) c)) []
+
 module _ (F : List ℕ → List ℕ) where
-  -- after the format
+  -- after the format, which tags all nodes
   unfoldable pub start : List ℕ → ℕ → List ℕ → State
   start key n card =
       let o = format F key n card in
-      record { anchor = o .anchor; array = zeroed n; tagged = messages (o .anchor) (o .card) (allNodes n); left = o .card }
-
-  -- after a call with the outcome o
-  abbrev pub moves : State → Call → Outcome → State
-  moves s c o =
-      let accepted = isWhole (o .answer) in
       record {
-        anchor = o .anchor;
-        array = moved (s .array) (told c) accepted;
-        tagged = cond accepted (messages (o .anchor) (o .card) (tags (o .anchor .depth) c)) [] ++ s .tagged;
-        left = cond (accepted && isWrite c) (o .card) (s .left);
+        store = record { anchor = o .anchor; array = zeroed n; left = o .card };
+        tagged = messages (o .anchor) (o .card) (allNodes n);
       }
 
+  -- what a call answers and leaves
+  abbrev pub result : Store → Step → Outcome
+  result s x = outcome F (s .anchor) (x .card) (x .call)
+
   unfoldable pub next : State → Step → State
-  next s x = moves s (x .call) (outcome F (s .anchor) (x .card) (x .call))
+  next s x =
+      let o = result (s .store) x in
+      record { store = moves (s .store) (x .call) o; tagged = newTags (x .call) o ++ s .tagged }
 
   -- after the calls of a list
   unfoldable pub after : State → List Step → State
@@ -69,5 +84,4 @@ module _ (F : List ℕ → List ℕ) where
   -- how many of them are accepted writes
   unfoldable pub writes : State → List Step → ℕ
   writes s [] = 0
-  writes s (x ∷ xs) =
-      cond (isWhole (outcome F (s .anchor) (x .card) (x .call) .answer) && isWrite (x .call)) 1 0 + writes (next s x) xs
+  writes s (x ∷ xs) = cond (isWhole (result (s .store) x .answer) && isWrite (x .call)) 1 0 + writes (next s x) xs

@@ -17,13 +17,6 @@ static uint64_t draw(void) {
     return state;
 }
 
-// The 32 bytes that a struct stands for.
-static void as_bytes(uint8_t *bytes, const struct pat_anchor *anchor) {
-    memcpy(bytes, anchor->key, PAT_KEY_BYTES);
-    pat_put_number(bytes + PAT_ANCHOR_DEPTH, anchor->depth);
-    pat_put_number(bytes + PAT_ANCHOR_ROOT, anchor->root);
-}
-
 // What a call is given, spoiled once in a while in one of the ways that have a refusal.
 struct given {
     struct pat_anchor anchor;
@@ -57,12 +50,12 @@ static uint64_t both(struct given *given, uint8_t *card, uint8_t *other, size_t 
     fill(block, sizeof block, draw());
     fill(ranges, sizeof ranges, draw());
     memcpy(other_ranges, ranges, sizeof ranges);
-    as_bytes(bytes, &given->anchor);
+    pat_anchor_to_bytes(&given->anchor, bytes);
     uint64_t answer = pat_write(bytes, sizeof bytes, card, given->card_len, given->index, block,
                                 given->block_len, ranges, given->ranges_len);
     uint64_t same = pat_write_in_place(&given->anchor, other, given->card_len, given->index, block,
                                        given->block_len, other_ranges, given->ranges_len);
-    as_bytes(after, &given->anchor);
+    pat_anchor_to_bytes(&given->anchor, after);
     expect(answer == same, "answers %llu and %llu", (unsigned long long)answer,
            (unsigned long long)same);
     expect(memcmp(bytes, after, sizeof bytes) == 0, "one anchor after answer %llu",
@@ -83,9 +76,9 @@ static void flip(uint8_t *card, size_t card_len, size_t at) {
 // then stays, on both cards.
 static void history(unsigned depth, unsigned steps, unsigned seen[PAT_REFUSED_TAG + 1]) {
     struct store store = make_store(depth);
-    struct pat_anchor anchor = {{0}, depth, 0};
+    struct pat_anchor anchor;
     uint8_t *other = malloc(store.card_len);
-    memcpy(anchor.key, store.anchor, PAT_KEY_BYTES);
+    pat_anchor_from_bytes(&anchor, store.anchor);
     memcpy(other, store.card, store.card_len);
     for (unsigned k = 0; k < steps; k++) {
         struct given given = draw_given(&anchor, store.card_len);

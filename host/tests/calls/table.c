@@ -1,45 +1,8 @@
-// The header's own arithmetic, and the rows of document 01's table that a caller can see.
+// The rows of document 01's table that a caller can see.
 #include "calls.h"
 #include "tests.h"
 
 #include <string.h>
-
-static void test_numbers(void) {
-    static const uint8_t expected[] = {0x01, 0x23, 0x45, 0x67, 0x89, 0xab, 0xcd, 0xef};
-    uint8_t bytes[8];
-    pat_put_number(bytes, 0x0123456789abcdef);
-    expect(memcmp(bytes, expected, 8) == 0, "pat_put_number is big-endian");
-    expect(pat_get_number(expected) == 0x0123456789abcdef, "pat_get_number is big-endian");
-    static const uint8_t ranges[] = {0,    0,    0,    8,    0,    0,    0,    16,
-                                     0x89, 0xab, 0xcd, 0xef, 0xfe, 0xdc, 0xba, 0x98};
-    expect(pat_range_start(ranges, 0) == 8 && pat_range_length(ranges, 0) == 16, "the first range");
-    expect(pat_range_start(ranges, 1) == 0x89abcdef, "the start of the second range");
-    expect(pat_range_length(ranges, 1) == 0xfedcba98, "the length of the second range");
-}
-
-void test_header(void) {
-    expect(PAT_ANCHOR_BYTES == 32 && PAT_KEY_BYTES == 16 && PAT_BLOCK_BYTES == 64, "lengths");
-    expect(PAT_ANCHOR_DEPTH == 16 && PAT_ANCHOR_ROOT == 24, "places in the anchor");
-    expect(PAT_MAX_DEPTH == 16 && PAT_RANGE_BYTES(3) == 48, "depth and ranges");
-    expect(PAT_RANGE_BYTES(PAT_MAX_DEPTH) == PAT_MAX_RANGE_BYTES, "the longest list of ranges");
-    expect(pat_refusal(0) == PAT_ACCEPTED && pat_node(0) == 0, "accepted");
-    expect(pat_refusal(5) == PAT_REFUSED_LENGTH && pat_node(5) == 0, "a refusal without a node");
-    uint64_t answer = 8 + 256 * (uint64_t)131071;
-    expect(pat_refusal(answer) == PAT_REFUSED_TAG && pat_node(answer) == 131071,
-           "a refusal with a node");
-    size_t leaves = 1;
-    for (unsigned depth = 1; depth <= 16; depth++) {
-        leaves *= 2;
-        expect(pat_card_bytes(depth) == 104 * leaves - 48, "the length of a card of depth %u",
-               depth);
-    }
-    static const uint64_t none[] = {
-        0, 17, 64, 65, 257, (uint64_t)1 << 32, ((uint64_t)1 << 32) + 3, UINT64_MAX};
-    for (size_t k = 0; k < sizeof none / sizeof *none; k++)
-        expect(pat_card_bytes(none[k]) == 0, "no card has a depth of %llu",
-               (unsigned long long)none[k]);
-    test_numbers();
-}
 
 // One write on a fresh card, and the pairs of start and length that it lists.
 static void ranges_row(char row, unsigned depth, uint64_t index, const uint32_t *pairs) {

@@ -1,5 +1,5 @@
--- As the write over a lent anchor in the crate boot, with numbers for the block's index and the answer: the borrow of the anchor is opened,
--- the write is called with the anchor's value, the anchor that it returns is stored, and the borrow is closed at it.
+-- The write over a lent anchor, walked by hand: the borrow of the anchor is opened, the write by value is called with what it holds, the
+-- anchor that this returns is stored, and the borrow is closed at it.
 use mathlib.Core.Path.{_≡_, refl, ap}
 use Prim.Native.Nat.{ℕ}
 use mathlib.Core.List.{[], _∷_, List}

@@ -1,0 +1,3 @@
+pub mod OfCode
+pub mod Theorem
+pub mod PlainLaws

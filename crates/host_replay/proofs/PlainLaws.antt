@@ -1,0 +1,199 @@
+-- Demand 3 of the functions for C in their own terms.
+use mathlib.Core.Path.{_≡_, refl, sym, ap, ap₂, subst, _∙_}
+use mathlib.Core.Bool.{Bool, true, false, cond, _&&_}
+use mathlib.Core.List.{List, [], _∷_, _++_}
+use mathlib.Core.Logic.{inl, inr, ⊎-elim}
+use Prim.Native.Nat.{ℕ, _+_, _*_, _<_}
+use native.Mathlib.Omega.{arith}
+use borrow.Author.Tests.{eq-eqb, ne-eqb}
+use lib.Dec.{eqb}
+use Rattle.cmac.specs.Cmac.{cmacOf}
+use Rattle.tree.specs.Answer.{refusalNumber, isWhole}
+use Rattle.tree.specs.Calls.{Call, read, write, check, isWrite, format}
+use Rattle.tree.specs.declared.Node.{Node}
+use Rattle.tree.specs.declared.Refusal.{Refusal}
+use Rattle.tree.specs.declared.Refusal.the-variants.{Depth, RootNonce, CardLength, BlockNumber, BlockLength, RangeLength, NoncesSpent}
+use Rattle.tree.specs.declared.Answer.{Answer}
+use Rattle.tree.specs.declared.Answer.the-variants.{Whole, Wrong, Refused}
+use Rattle.replay.specs.Array.{Array, zeroed, moved}
+use Rattle.replay.specs.Places.{Place}
+use Rattle.replay.specs.Run
+use Rattle.replay.specs.Run.{Step, Store, State, start, result, next, after}
+use Rattle.replay.specs.Claim.{Agrees, Accepted, Agreement, Forgery}
+use Rattle.replay.proofs.PlaceLaws.{first, later, earlier, mapped, image}
+use Rattle.replay.proofs.Moves.{after-key}
+use Rattle.pat.specs.Host.{anchorOf, codeOf, Codes}
+use Rattle.pat.proofs.AnchorLaws.{code-whole, whole-code}
+use Rattle.host_replay.specs.Called.{Held, bytes, anchorIn, Called, steps, History, Formatted, begin, Demand3Of}
+use Rattle.host_replay.specs.Plain.{whole, leftBy, arrayBy, Shows, Each, Agreed, AllUntouched, WritesUntouched, PlainDemand}
+use Rattle.host_replay.proofs.Theorem.{Tells, demand3-of-calls}
+
+-- Answers as one number
+
+code-is : (x : Answer) (code : ℕ) → code ≡ codeOf x → eqb code 0 ≡ isWhole x
+code-is x code e = go x e
+  where
+    no : (x : Answer) → code ≡ codeOf x → (x ≡ Whole → ⊥) → eqb code 0 ≡ false
+    no x e d = ne-eqb code 0 (λ (z : code ≡ 0). d (code-whole x (sym e ∙ z)))
+
+    go : (x : Answer) → code ≡ codeOf x → eqb code 0 ≡ isWhole x
+    go Whole e = eq-eqb code 0 (e ∙ whole-code)
+    go (Wrong u) e = no (Wrong u) e (λ p. let z : _≡_ {A = ℕ} 0 1 = cc in omega arith)
+    go (Refused r) e = no (Refused r) e (λ p. let z : _≡_ {A = ℕ} 0 1 = cc in omega arith)
+
+refusal-small : (r : Refusal) → refusalNumber r < 8
+refusal-small Depth = omega arith
+refusal-small RootNonce = omega arith
+refusal-small CardLength = omega arith
+refusal-small BlockNumber = omega arith
+refusal-small BlockLength = omega arith
+refusal-small RangeLength = omega arith
+refusal-small NoncesSpent = omega arith
+
+-- one that names no wrong tag is not 8 plus 256 times a node
+not-wrong : (x : Answer) → ((u : Node) → x ≡ Wrong u → ⊥) → (u : ℕ) → codeOf x ≡ 8 + 256 * u → ⊥
+unfolding codeOf
+not-wrong Whole d u e = omega arith
+not-wrong (Wrong v) d u e = d v refl
+not-wrong (Refused r) d u e = omega (arith, refusal-small r)
+
+-- What is known, by the answers
+
+module _ (key : List ℕ) where
+  abbrev F : List ℕ → List ℕ
+  F = cmacOf key
+
+  next-left : (s : State) (r : Called) → Tells key s [] r
+      → next (cmacOf key) s (r .step) .store .left ≡ cond (whole r && isWrite (r .step .call)) (r .card) (s .store .left)
+  unfolding after next
+  next-left s r t =
+      sym (ap₂ (λ (b : Bool) (c : List ℕ). cond (b && isWrite (r .step .call)) c (s .store .left))
+      (code-is (result F (s .store) (r .step) .answer) (r .code) (t .coded)) (t .left))
+
+  next-array : (s : State) (r : Called) → Tells key s [] r
+      → next (cmacOf key) s (r .step) .store .array ≡ moved (s .store .array) (Run.told (r .step .call)) (whole r)
+  unfolding after next
+  next-array s r t =
+      sym (ap (moved (s .store .array) (Run.told (r .step .call))) (code-is (result F (s .store) (r .step) .answer) (r .code) (t .coded)))
+
+  rest : (s : State) (r : Called) (rs : List Called) → Each (r ∷ rs) (Tells key s) → Each rs (Tells key (next (cmacOf key) s (r .step)))
+  unfolding after
+  rest s r rs f p = f (later r p)
+
+  left-by : (rs : List Called) (s : State) → Each rs (Tells key s)
+      → after (cmacOf key) s (steps rs) .store .left ≡ leftBy (s .store .left) rs
+  unfolding after
+  left-by [] s f = refl
+  left-by (r ∷ rs) s f =
+      left-by rs (next F s (r .step)) (rest s r rs f) ∙ ap (λ (l : List ℕ). leftBy l rs) (next-left s r (f (first r rs)))
+
+  array-by : (rs : List Called) (s : State) → Each rs (Tells key s)
+      → after (cmacOf key) s (steps rs) .store .array ≡ arrayBy (s .store .array) rs
+  unfolding after
+  array-by [] s f = refl
+  array-by (r ∷ rs) s f =
+      array-by rs (next F s (r .step)) (rest s r rs f) ∙ ap (λ (a : Array). arrayBy a rs) (next-array s r (f (first r rs)))
+
+-- two definitions of one meaning
+agrees-shows : (n : ℕ) (array : Array) (card given : List ℕ) (c : Call) → Agrees n array card given c → Shows n array card given c
+agrees-shows n array card given (read i buffer) a = a
+agrees-shows n array card given (write i block ranges) a = tt
+agrees-shows n array card given check a = a
+
+module _ (anchor card made left : List ℕ) (formatted : Formatted anchor card 0 made left) (rs : List Called)
+    (ran : History (bytes made) rs) where
+  abbrev k : List ℕ
+  k = anchorOf anchor .key
+
+  abbrev n : ℕ
+  n = anchorOf anchor .depth
+
+  abbrev s₀ : State
+  s₀ = begin anchor card
+
+  -- what is known before a call
+  abbrev store : Place rs → Store
+  store p = after (cmacOf (anchorOf anchor .key)) (begin anchor card) (steps (p .before)) .store
+
+  demand : Demand3Of anchor card made left rs
+  demand = demand3-of-calls anchor card made left formatted rs ran
+
+  tells : (p : Place rs) → Each (p .before) (Tells (anchorOf anchor .key) (begin anchor card))
+  tells p q = demand .told (earlier p q)
+
+  left-is : (p : Place rs) → store p .left ≡ leftBy left (p .before)
+  left-is p = left-by k (p .before) s₀ (tells p) ∙ ap (λ (l : List ℕ). leftBy l (p .before)) (sym (demand .formatted))
+
+  zeroed-is : begin anchor card .store .array ≡ zeroed (anchorOf anchor .depth)
+  unfolding start
+  zeroed-is = refl
+
+  array-is : (p : Place rs) → store p .array ≡ arrayBy (zeroed (anchorOf anchor .depth)) (p .before)
+  array-is p = array-by k (p .before) s₀ (tells p) ∙ ap (λ (a : Array). arrayBy a (p .before)) zeroed-is
+
+  depth-is : (xs : List Step) → after (cmacOf (anchorOf anchor .key)) (begin anchor card) xs .store .anchor .depth ≡ anchorOf anchor .depth
+  unfolding start format
+  depth-is xs = after-key (cmacOf k) xs s₀ .1
+
+  agreed : Agreement (cmacOf (anchorOf anchor .key)) (begin anchor card) (steps rs) → Agreed (anchorOf anchor .depth) rs
+  agreed a p zero =
+      let r = p .item in
+      let t = demand .told p in
+      let z = store p in
+      let o = result (cmacOf k) z (r .step) in
+      let shows =
+      agrees-shows (z .anchor .depth) (z .array) (r .step .card) (o .lent) (r .step .call)
+      (a (mapped (λ (q : Called). q .step) p) (code-whole (o .answer) (sym (t .coded) ∙ zero))) in
+      subst (λ (l : List ℕ). Shows n (arrayBy (zeroed n) (p .before)) (r .step .card) l (r .step .call)) (sym (t .filled))
+      (subst (λ (b : Array). Shows n b (r .step .card) (o .lent) (r .step .call)) (array-is p)
+      (subst (λ (m : ℕ). Shows m (z .array) (r .step .card) (o .lent) (r .step .call)) (depth-is (steps (p .before))) shows))
+
+  -- an accepted place of the list is a call that answered 0
+  untouched : (P : Called → Type 0) → Each rs (λ before r. r .code ≡ 0 → P r → r .step .card ≡ leftBy left before)
+      → (q : Place (steps rs))
+      → Accepted (cmacOf (anchorOf anchor .key)) (after (cmacOf (anchorOf anchor .key)) (begin anchor card) (q .before) .store) (q .item)
+      → ((r : Called) → r .step ≡ q .item → P r)
+      → q .item .card ≡ after (cmacOf (anchorOf anchor .key)) (begin anchor card) (q .before) .store .left
+  untouched P f q w holds =
+      let i = image (λ (c : Called). c .step) rs q in
+      let p = i .place in
+      let same = ap₂ (λ (l : List Step) (y : Step). result (cmacOf k) (after (cmacOf k) s₀ l .store) y .answer) (i .before-is)
+      (i .item-is) in
+      sym (ap (λ (y : Step). y .card) (i .item-is))
+      ∙ f p (demand .told p .coded ∙ ap codeOf (same ∙ w) ∙ whole-code) (holds (p .item) (i .item-is))
+      ∙ sym (left-is p)
+      ∙ ap (λ (l : List Step). after (cmacOf k) s₀ l .store .left) (i .before-is)
+
+  honest : AllUntouched left rs → Agreed (anchorOf anchor .depth) rs
+  honest f = agreed (demand .unforged .agreed (λ q w. untouched (λ r. Unit {0}) (λ p z u. f p z) q w (λ r e. tt)))
+
+-- the calls before one are a history
+front-ran : (h : Held) (before behind : List Called) → History h (before ++ behind) → History h before
+front-ran h [] behind k = tt
+front-ran h (r ∷ before) behind k = (k .0, k .1, front-ran (r .anchor) before behind (k .2))
+
+module _ (anchor card made left : List ℕ) (formatted : Formatted anchor card 0 made left) (rs : List Called)
+    (ran : History (bytes made) rs) where
+  quiet : Each rs (λ before r. WritesUntouched left before → r .step .card ≡ leftBy left before → (u : ℕ) → r .code ≡ 8 + 256 * u → ⊥)
+  quiet p f same u code =
+      let early = front-ran (bytes made) (p .before) (p .item ∷ p .behind) (subst (History (bytes made)) (p .is) ran) in
+      let d = demand3-of-calls anchor card made left formatted rs ran in
+      not-wrong _
+      (d .demand .quiet (mapped (λ (c : Called). c .step) p)
+      (λ q a w.
+      untouched anchor card made left formatted (p .before) early (λ (c : Called). isWrite (c .step .call) ≡ true) f q a
+      (λ c i. ap (λ (y : Step). isWrite (y .call)) i ∙ w))
+      (same ∙ sym (left-is anchor card made left formatted rs ran p)))
+      u (sym (d .told p .coded) ∙ code)
+
+  pub plain-demand : PlainDemand anchor card left rs
+  plain-demand =
+      record {
+        safe = ⊎-elim
+            (λ (a : Agreement (cmacOf (anchorOf anchor .key)) (begin anchor card) (steps rs)). inl
+            (agreed anchor card made left formatted rs ran a))
+            (λ (f : Forgery (cmacOf (anchorOf anchor .key)) (begin anchor card) (steps rs)). inr f)
+            (demand3-of-calls anchor card made left formatted rs ran .demand .safe);
+        honest = honest anchor card made left formatted rs ran;
+        quiet = quiet;
+      }

@@ -1,0 +1,9 @@
+-- Places in a list, so that a claim can speak of an item together with those before it.
+use mathlib.Core.Path.{_≡_}
+use mathlib.Core.List.{List, _∷_, _++_}
+
+pub record Place {A : Type 0} (xs : List A) : Type 0 where
+  pub before : List A
+  pub item : A
+  pub behind : List A
+  pub is : xs ≡ before ++ (item ∷ behind)
