@@ -62,15 +62,6 @@ fi
 grep -q 'block 3: van 7: round 12' "$room/out" || fail 'the example reads something else'
 grep -q 'refused 8 at node 7' "$room/out" || fail 'the example is not refused'
 
-# Some systems have a man that only says that there is none.
-if man --version 2>/dev/null | grep -q '^man [0-9]'; then
-    LC_ALL=C MANPATH="$base/share/man" man roundcard >"$room/page" 2>"$room/log" || fail 'man finds no page'
-    grep -q 'roundcard format' "$room/page" || fail 'the page is another'
-    [ -s "$room/log" ] && fail "man says $(cat "$room/log")"
-else
-    echo 'skipped: man is not here, so the pages are not shown'
-fi
-
 run_make uninstall
 [ "$(list)" = "$others" ] || fail "uninstall leaves or takes something: $(list)"
 run_make uninstall
