@@ -21,8 +21,8 @@ use Rattle.tree.specs.declared.Answer.{Answer}
 use Rattle.tree.specs.declared.Answer.the-variants.{Whole}
 use Rattle.tree.proofs.LabelLaws.{labels-below}
 use Rattle.tree.proofs.LimitLaws.{Writes}
-use Rattle.tree.proofs.WriteLaws.{written-length, written-labels, Clean, clean-blanked, clean-written}
-use Rattle.tree.proofs.CallLaws.{accepted, clean-accepts, outcome-answer, outcome-done, format-accept}
+use Rattle.tree.proofs.WriteLaws.{written-length, written-labels, Clean, clean-blanked}
+use Rattle.tree.proofs.CallLaws.{accepted, clean-accepts, clean-done, outcome-answer, outcome-done, format-accept}
 use Rattle.scope.specs.Table.{anchor, refused, RowF, RowG, Table}
 
 module _ (F : List ℕ → List ℕ) (F16 : (m : List ℕ) → length (F m) ≡ 16) where
@@ -112,9 +112,9 @@ module _ (F : List ℕ → List ℕ) (F16 : (m : List ℕ) → length (F m) ≡ 
           let n = row-g-nonces card b long c full longc in
           rw (did (anchor key 2 2) (written F 2 0 0 card 2 b) 0 c s w) (n .0, n .1, refl)
 
-      then-accepted : (card : List ℕ) → Clean F 2 0 card → then card .answer ≡ Whole
-      then-accepted card clean =
-          let left = clean-written F F16 2 (omega arith) 0 0 card 2 b (omega arith) long clean in
+      then-accepted : (card : List ℕ) → Clean F 2 0 card → Writes 2 0 card 2 b r → then card .answer ≡ Whole
+      then-accepted card clean p =
+          let left = clean-done F F16 (anchor key 2 0) card (write 2 b r) p clean in
           within (anchor key 2 2) (written F 2 0 0 card 2 b) 0 c s left
           (record {
             sound = record { deep = omega arith; shallow = omega arith; multiple = refl; full = left .full };
@@ -129,15 +129,15 @@ module _ (F : List ℕ → List ℕ) (F16 : (m : List ℕ) → length (F m) ≡ 
           record {
             accepted = λ card full.
                 let clean = formatted key 2 card (omega arith) (omega arith) full in
-                let w = within (anchor key 2 0) (format F key 2 card .card) 2 b r clean
-                (record {
+                let p : Writes 2 0 (format F key 2 card .card) 2 b r = record {
                   sound = record { deep = omega arith; shallow = omega arith; multiple = refl; full = clean .full };
                   inside = omega arith;
                   long = long;
                   room = omega arith;
                   unspent = omega arith;
-                }) in
-                (w, rw (did (anchor key 2 0) (format F key 2 card .card) 2 b r w) (then-accepted (format F key 2 card .card) clean));
+                } in
+                let w = within (anchor key 2 0) (format F key 2 card .card) 2 b r clean p in
+                (w, rw (did (anchor key 2 0) (format F key 2 card .card) 2 b r w) (then-accepted (format F key 2 card .card) clean p));
             nonces = λ card w v.
                 let e = did (anchor key 2 0) card 2 b r w in
                 let o = passed (anchor key 2 0) card 2 b r w in

@@ -22,7 +22,7 @@ use Rattle.words.specs.Bytes.{same}
 use Rattle.words.proofs.Same.{same-is, same-refl}
 use Rattle.tree.proofs.LayoutLaws.{AllNodes}
 use Rattle.tree.proofs.NodeLaws.{pair-checked, checked-pair, pair-node, path-among, path-is-node, node-among, among-node}
-use Rattle.tree.proofs.WriteLaws.{Right, Clean}
+use Rattle.tree.proofs.WriteLaws.{Right, Clean, clean-written}
 use Rattle.tree.proofs.LimitLaws.{no-limits, passes, pass, is-equal, equal-is, depth-passes, depth-in, Passes, passed, pass-all}
 
 -- Tags
@@ -126,6 +126,16 @@ module _ (F : List ℕ → List ℕ) (a : Anchor) (card : List ℕ) (c : Call) w
 module _ (F : List ℕ → List ℕ) (a : Anchor) (card : List ℕ) (clean : Clean F (a .depth) (a .root .0) card) (c : Call) where
   pub clean-accepts : Passes a card c → answerOf F a card c ≡ Whole
   clean-accepts p = accept F a card c (record { limits-passed = p; tags-right = λ u m. clean .right u (checks-nodes a card c p u m) })
+
+-- and leaves such a card, under the anchor that it leaves
+module _ (F : List ℕ → List ℕ) (F16 : (m : List ℕ) → length (F m) ≡ 16) (a : Anchor) (card : List ℕ) where
+  pub clean-done : (c : Call) → Passes a card c → Clean F (a .depth) (a .root .0) card →
+      let o = done F a card c in
+      Clean F (o .anchor .depth) (o .anchor .root .0) (o .card)
+  clean-done (read i buffer) p clean = clean
+  clean-done (write i block ranges) p clean =
+      clean-written F F16 (a .depth) (p .sound .deep) (a .root .0) (a .root .0) card i block (p .inside) (p .long) clean
+  clean-done check p clean = clean
 
 -- Outcomes
 
