@@ -3,7 +3,6 @@ use mathlib.Core.Path.{_≡_, refl, sym, ap, _∙_}
 use mathlib.Core.List.{List, [], _∷_, _++_}
 use mathlib.Core.Option.{Option, none, some}
 use Prim.Native.Nat.{ℕ, _+_, _*_, _^_}
-use native.Mathlib.Omega.{arith}
 use types.Run.{OneOf, miss}
 use denote.Enum.Declared.{tagOf}
 use lib.ListN.{length, drop}
@@ -11,8 +10,8 @@ use Rattle.tree.specs.Layout.{IsCard, label}
 use Rattle.tree.specs.Card.{blanked, written, firstWrong}
 use Rattle.tree.specs.Ranges.{rangesOf, encode}
 use Rattle.tree.specs.Limits.{depthLimit, cardLimit, firstFailing}
-use Rattle.tree.specs.Calls.{Call, read, write, check, Gives, lentTo, firstLimits, ownLimits, limits, checks, verdict}
-use Rattle.tree.specs.Calls.{rooted, answerOf, settled, outcome, formatAnswer, format}
+use Rattle.tree.specs.Calls.{Call, read, write, check, Gives, lentTo, firstLimits, ownLimits, limits, checks}
+use Rattle.tree.specs.Calls.{verdict, rooted, answerOf, settled, outcome, formatAnswer, format}
 use Rattle.tree.specs.declared.Anchor.{Anchor}
 use Rattle.tree.specs.declared.Refusal.{Refusal}
 use Rattle.tree.specs.declared.Answer.{Answer}

@@ -20,7 +20,8 @@ use Rattle.tree.specs.Labels.{Labels, form, labels, nonceOrBlock, blankLabels, 
 use Rattle.tree.specs.Card.{stamp, stamped}
 use Rattle.tree.proofs.ByteLaws.{length-be, part-sets-second}
 use Rattle.tree.proofs.LayoutLaws.{AllNodes, inner, leaf, entry-on}
-use Rattle.tree.proofs.NodeLaws.{Off, among, is-among, sibling-half, path-leaf, path-parent, path-level, path-node, path-distinct, pair-parent, pair-node, child-off, twin-node}
+use Rattle.tree.proofs.NodeLaws.{Off, among, is-among, sibling-half, path-leaf, path-parent, path-level}
+use Rattle.tree.proofs.NodeLaws.{path-node, path-distinct, pair-parent, pair-node, child-off, twin-node}
 use Rattle.tree.proofs.LabelLaws.{Sized, labels-below, labels-sized, new-path, new-leaf, new-off, new-sized}
 use Rattle.tree.proofs.CardLaws.{stamped-keeps}
 
@@ -114,7 +115,8 @@ unfolding stamped blankLabels
 blank-more F n t y card c p h e q =
     let u = y + 1 + 1 in
     let x = nonceOrBlock n t (replicate 64 0) u in
-    ap₂ (λ (l s : List ℕ). sets l (offset n u) (x ++ F (form x s (u % 2)))) q (e ∙ sym (put-inner n t (replicate 64 0) (u / 2) (omega arith)))
+    ap₂ (λ (l s : List ℕ). sets l (offset n u) (x ++ F (form x s (u % 2)))) q
+    (e ∙ sym (put-inner n t (replicate 64 0) (u / 2) (omega arith)))
     ∙ sym (stamped-more F n (blankLabels n t) y (λ z. (z + 1) ∷ []) card)
 
 -- A write: level y + 1, its node u on the path, and u's sibling v
@@ -141,7 +143,8 @@ module _ (n i : ℕ) (inside : i < 2 ^ n) (y u v : ℕ) (h : y < n) (on : u ≡ 
 
   v-off : Off n i inside n v
   v-off =
-      child-off n i inside v (record { level = y; high = h; is = v-half ∙ u-parent }) (λ (e : v ≡ pathNode n i (suc y)). v-other (e ∙ sym on-next))
+      child-off n i inside v (record { level = y; high = h; is = v-half ∙ u-parent })
+      (λ (e : v ≡ pathNode n i (suc y)). v-other (e ∙ sym on-next))
 
   -- the nodes before v, and v is none of them
   first-nodes : AllNodes n (upTo y (pair n i) ++ (u ∷ []))
@@ -150,7 +153,8 @@ module _ (n i : ℕ) (inside : i < 2 ^ n) (y u v : ℕ) (h : y < n) (on : u ≡ 
       ⊎-elim
       (λ (p : List·Memᴰ w (upTo y (pair n i))).
       let a = among y (pair n i) w p in
-      pair-node n i inside w (is-among n (pair n i) w (record { level = a .level; low = a .low; high = omega (arith, a .high); here = a .here })))
+      pair-node n i inside w
+      (is-among n (pair n i) w (record { level = a .level; low = a .low; high = omega (arith, a .high); here = a .here })))
       (λ (p : List·Memᴰ w (u ∷ [])). subst (λ (z : ℕ). IsNode n z) (sym (List·Memᴰ·eq-of-singleton p)) u-node)
       (List·Memᴰ·append-cases (upTo y (pair n i)) m)
 
@@ -160,7 +164,8 @@ module _ (n i : ℕ) (inside : i < 2 ^ n) (y u v : ℕ) (h : y < n) (on : u ≡ 
       (λ (p : List·Memᴰ v (upTo y (pair n i))).
       let a = among y (pair n i) v p in
       let e : suc (a .level - 1) ≡ a .level = omega (arith, a .low) in
-      let q = pair-parent n i inside v (a .level - 1) (subst (λ (z : ℕ). List·Memᴰ v (pair n i z)) (sym e) (a .here)) (omega (arith, a .high)) in
+      let q = pair-parent n i inside v (a .level - 1) (subst (λ (z : ℕ). List·Memᴰ v (pair n i z)) (sym e) (a .here))
+      (omega (arith, a .high)) in
       let k = path-distinct n i inside (a .level - 1) y (omega (arith, a .high)) (omega arith) (sym q ∙ v-half ∙ u-parent) in
       omega (arith, a .low, a .high))
       (λ (p : List·Memᴰ v (u ∷ [])). v-other (List·Memᴰ·eq-of-singleton p))
@@ -190,7 +195,8 @@ module _ (n i : ℕ) (inside : i < 2 ^ n) (y u v : ℕ) (h : y < n) (on : u ≡ 
         let e : new - n + n - y ≡ new - y = omega arith in
         sym (ap N q ∙ new-path n (new - n) i b inside M y h ∙ ap be8 e)
 
-  module _ (F : List ℕ → List ℕ) (F16 : (m : List ℕ) → length (F m) ≡ 16) (new r : ℕ) (b card : List ℕ) (low : n ≤ new) (long : length b ≡ 64)
+  module _ (F : List ℕ → List ℕ) (F16 : (m : List ℕ) → length (F m) ≡ 16) (new r : ℕ) (b card : List ℕ) (low : n ≤ new)
+      (long : length b ≡ 64)
       (d : IsCard n card) where
     abbrev L : Labels
     L = newLabels n (new - n) i b (labels n r card)
@@ -218,7 +224,8 @@ module _ (n i : ℕ) (inside : i < 2 ^ n) (y u v : ℕ) (h : y < n) (on : u ≡ 
         let s1 : c1 ≡ stamp F n L c0 u =
         e1 ∙ ap (λ (l : List ℕ). sets l (offset n u) (x ++ F (form x p (u % 2)))) e
         ∙ ap₂ (λ (z s : List ℕ). sets c0 (offset n u) (z ++ F (form z s (u % 2)))) (u-label new b low M) pu in
-        let s2 : c1 ≡ stamped F n L (upTo y (pair n i) ++ (u ∷ [])) card = s1 ∙ sym (stamped-append F n L (upTo y (pair n i)) (u ∷ []) card) in
+        let s2 : c1 ≡ stamped F n L (upTo y (pair n i) ++ (u ∷ [])) card =
+        s1 ∙ sym (stamped-append F n L (upTo y (pair n i)) (u ∷ []) card) in
         let d1 : IsCard n c1 = same-card c1 (ap length s2 ∙ stamped-length F n L (upTo y (pair n i) ++ (u ∷ [])) card) d in
         tag-put n c1 v d1 v-node F (L v) p (v-label c1 s2) (sized v v-node)
         ∙ ap₂ (λ (l s : List ℕ). sets l (offset n v) (L v ++ F (form (L v) s (v % 2)))) s1 pv

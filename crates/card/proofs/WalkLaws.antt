@@ -36,7 +36,8 @@ module _ (F : List ℕ → List ℕ) (n t : ℕ) (card : List ℕ) where
   wrong-append (u ∷ us) vs = go (wrong-append us vs) (right F n t card u)
     where
       go : firstWrong F n t card (us ++ vs) ≡ orElse (firstWrong F n t card us) (firstWrong F n t card vs) → (b : Bool)
-          → cond b (firstWrong F n t card (us ++ vs)) (some u) ≡ orElse (cond b (firstWrong F n t card us) (some u)) (firstWrong F n t card vs)
+          → cond b (firstWrong F n t card (us ++ vs)) (some u)
+          ≡ orElse (cond b (firstWrong F n t card us) (some u)) (firstWrong F n t card vs)
       go e true = e
       go e false = refl
 

@@ -142,7 +142,8 @@ pub fn block<'a>(
     requires { ⌜ length (now block) ≡ 64 ⌝ }
     requires { ⌜ last .0 + depth < 2 ^ 64 ⌝ }
     ensures { λ _. ⌜ ((t : ℕ) → now (card .exit)
-        ≡ written (tagUnder (now (schedule .entry)) (now (subkeys .entry))) depth t (last .0) (now (card .entry)) (index .0) (now (block .entry))) ⌝ }
+        ≡ written (tagUnder (now (schedule .entry)) (now (subkeys .entry))) depth t (last .0)
+        (now (card .entry)) (index .0) (now (block .entry))) ⌝ }
 {
     let new = last.0 + depth;
     let mut level: u64 = 0;

@@ -29,7 +29,8 @@ pub fn path<'a>(
     requires { ⌜ IsCard depth (now card) ⌝ }
     requires { ⌜ index .0 < 2 ^ depth ⌝ }
     ensures { λ r. ⌜ r ≡ verdict none
-        (firstWrong (tagUnder (now (schedule .entry)) (now (subkeys .entry))) depth (root .0) (now (card .entry)) (path depth (index .0))) ⌝ }
+        (firstWrong (tagUnder (now (schedule .entry)) (now (subkeys .entry))) depth (root .0) (now (card .entry))
+        (path depth (index .0))) ⌝ }
 {
     let mut level: u64 = 0;
     while level < depth {

@@ -41,4 +41,5 @@ pub mixed-word : (p q r s a b c d k : ℕ)
 unfolding xorWord mixRow
 mixed-word p q r s a b c d k ea eb ec ed =
     ap (λ (w : ℕ). bytes 4 (bitXor w k)) (ap (λ (w : ℕ). bitXor w c) (xor-turn a d b) ∙ xor-turn (bitXor a b) d c)
-    ∙ word-xor (bitXor (bitXor (bitXor a b) c) d) k (xor-words (bitXor (bitXor a b) c) d (xor-words (bitXor a b) c (xor-words a b ea eb) ec) ed)
+    ∙ word-xor (bitXor (bitXor (bitXor a b) c) d) k
+    (xor-words (bitXor (bitXor a b) c) d (xor-words (bitXor a b) c (xor-words a b ea eb) ec) ed)

@@ -7,8 +7,9 @@ use borrow.Author.Tests.{eq-eqb, ne-eqb}
 use lib.ListN.{length, take, drop, length-append}
 use lib.Seq.{drop-append-add, sets, sets-eq, length-sets, length-take-le, take-add, take-at, drop-at}
 use Rattle.words.specs.Bytes.{part}
-use Rattle.cipher.specs.KeyExpansion.{wordAt, xorWord, subWord, rotWord, roundConstant, rcon, temp, nextWord, firstWords, nextRoundKey}
-use Rattle.words.specs.Words.{bytes, stateOf}
+use Rattle.cipher.specs.KeyExpansion.{wordAt, xorWord, subWord, rotWord, roundConstant}
+use Rattle.cipher.specs.KeyExpansion.{rcon, temp, nextWord, firstWords, nextRoundKey}
+use Rattle.words.specs.Words.{stateOf}
 use Rattle.words.specs.declared.Columns.{Columns}
 
 -- the words from 4 r on stand in q, after the 16 r bytes of p
@@ -19,17 +20,27 @@ module _ (p q : List ℕ) (r : ℕ) (n : length p ≡ 16 * r) where
       ap (λ (o : ℕ). part (p ++ q) o 4) o ∙ ap (take 4) (drop-append-add p q (4 * j))
 
   -- the first word of a round key
-  next-first : nextWord (p ++ q) (4 + 4 * r) ≡ xorWord (wordAt q 0) (xorWord (subWord (rotWord (wordAt q 3))) (rcon (roundConstant (r + 1))))
+  next-first : nextWord (p ++ q) (4 + 4 * r)
+      ≡ xorWord (wordAt q 0) (xorWord (subWord (rotWord (wordAt q 3))) (rcon (roundConstant (r + 1))))
   unfolding nextWord temp
   next-first =
       let d : (4 + 4 * r) / 4 ≡ r + 1 = omega arith in
-      rw (eq-eqb ((4 + 4 * r) % 4) 0 (omega arith), d, word-after (4 + 4 * r - 4) 0 (omega arith), word-after (4 + 4 * r - 1) 3 (omega arith))
+      rw (
+        eq-eqb ((4 + 4 * r) % 4) 0 (omega arith),
+        d,
+        word-after (4 + 4 * r - 4) 0 (omega arith),
+        word-after (4 + 4 * r - 1) 3 (omega arith),
+      )
 
   -- each other word
   next-later : (i m : ℕ) → i ≡ 4 * r + suc m → m < 3 → nextWord (p ++ q) (4 + i) ≡ xorWord (wordAt q (suc m)) (wordAt q (m + 4))
   unfolding nextWord temp
   next-later i m e h =
-      rw (ne-eqb ((4 + i) % 4) 0 (λ (z : (4 + i) % 4 ≡ 0). omega arith), word-after (4 + i - 4) (suc m) (omega arith), word-after (4 + i - 1) (m + 4) (omega arith))
+      rw (
+        ne-eqb ((4 + i) % 4) 0 (λ (z : (4 + i) % 4 ≡ 0). omega arith),
+        word-after (4 + i - 4) (suc m) (omega arith),
+        word-after (4 + i - 1) (m + 4) (omega arith),
+      )
 
 grown : (key p q v : List ℕ) (i : ℕ) → firstWords key i ≡ p ++ q → nextWord (p ++ q) (4 + i) ≡ v
     → firstWords key (suc i) ≡ p ++ (q ++ v)

@@ -1,5 +1,5 @@
 -- FIPS 197, section 5.1: AES-128, ten rounds.
-use Prim.Native.Nat.{ℕ, zero, suc, _+_, _*_}
+use Prim.Native.Nat.{ℕ, zero, suc, _*_}
 use mathlib.Core.List.{List}
 use Rattle.words.specs.Bytes.{part}
 use Rattle.cipher.specs.State.{subBytes, shiftRows, mixColumns, addRoundKey}

@@ -8,7 +8,7 @@ use Rattle.cipher.specs.SBox.{sBox}
 
 -- the substitution of each byte
 unfoldable pub IsSBox : List ℕ → Type 0
-IsSBox s = (b : ℕ) → b < 256 → at s b ≡ sBox b
+IsSBox table = (b : ℕ) → b < 256 → at table b ≡ sBox b
 
 -- what mixing makes of the column s 0 0 0
 abbrev pub mixedColumn : ℕ → List ℕ
@@ -20,4 +20,4 @@ entry b = mixedColumn (sBox b) ++ mixedColumn (sBox b)
 
 -- the entry of each byte, one after the other
 unfoldable pub IsRoundTable : List ℕ → Type 0
-IsRoundTable t = (b : ℕ) → b < 256 → part t (8 * b) 8 ≡ entry b
+IsRoundTable table = (b : ℕ) → b < 256 → part table (8 * b) 8 ≡ entry b

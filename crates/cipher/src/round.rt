@@ -33,7 +33,8 @@ fn substituted(table: &[u8; 2048], byte: usize) -> u8
 fn mixed(table: &[u8; 2048], first: u32, second: u32, third: u32, fourth: u32, key: u32) -> u32
     requires { ⌜ IsRoundTable (now table) ⌝ }
     ensures { λ r. ⌜ bytes 4 r ≡ xorWord
-        (mixColumn (sBox (at (bytes 4 first) 0)) (sBox (at (bytes 4 second) 1)) (sBox (at (bytes 4 third) 2)) (sBox (at (bytes 4 fourth) 3)))
+        (mixColumn (sBox (at (bytes 4 first) 0)) (sBox (at (bytes 4 second) 1)) (sBox (at (bytes 4 third) 2))
+        (sBox (at (bytes 4 fourth) 3)))
         (bytes 4 key) ⌝ }
 {
     window(table, words::byte0(first), 0)

@@ -11,7 +11,8 @@ use Rattle.words.specs.Bytes.{at, part, xorBlock}
 use Rattle.cipher.specs.Cipher.{cipherOf, encryptOf}
 use Rattle.cipher.specs.KeyExpansion.{keyExpansion}
 use Rattle.cipher.proofs.Rounds.{cipher-of-key, length-cipher, length-encrypt}
-use Rattle.cmac.specs.Cmac.{zeros, shifted, rb, double, subkey1, subkey2, blocks, complete, lastBlock, chain, cmacWith, cmacBy, cmacOf}
+use Rattle.cmac.specs.Cmac.{zeros, shifted, rb, double, subkey1, subkey2, blocks}
+use Rattle.cmac.specs.Cmac.{complete, lastBlock, chain, cmacWith, cmacBy, cmacOf}
 use Rattle.cmac.specs.Context.{subkeysOf, ContextOf, tagUnder}
 use Rattle.cmac.specs.declared.Context.{Context}
 
@@ -20,14 +21,14 @@ pub length-cmac : (key m : List ℕ) → length (cmacOf key m) ≡ 16
 unfolding cmacOf cmacBy cmacWith
 length-cmac key m = length-encrypt key _
 
-pub length-tag-under : (w k m : List ℕ) → length (tagUnder w k m) ≡ 16
+pub length-tag-under : (schedule subkeys m : List ℕ) → length (tagUnder schedule subkeys m) ≡ 16
 unfolding tagUnder cmacWith
-length-tag-under w k m = length-cipher w _
+length-tag-under schedule subkeys m = length-cipher schedule _
 
 -- with zeros for the subkeys, the tag of the zero block is its cipher
-pub tag-of-zeros : (w : List ℕ) → tagUnder w (replicate 32 0) (replicate 16 0) ≡ cipherOf w zeros
+pub tag-of-zeros : (schedule : List ℕ) → tagUnder schedule (replicate 32 0) (replicate 16 0) ≡ cipherOf schedule zeros
 unfolding tagUnder cmacWith chain lastBlock blocks complete xorBlock
-tag-of-zeros w = refl
+tag-of-zeros schedule = refl
 
 length-double : (l : List ℕ) → length (double l) ≡ 16
 unfolding double xorBlock

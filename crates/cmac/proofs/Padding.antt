@@ -5,7 +5,8 @@ use Prim.Native.Nat.{ℕ, suc, _+_, _-_, _<_, _≤_}
 use mathlib.Core.Logic.{⊎-elim}
 use native.Mathlib.Nat.{add-assoc, add-zero, eq-or-lt-of-le}
 use native.Mathlib.Omega.{arith}
-use lib.ListN.{length, drop, replicate, length-append, length-replicate, length-take, length-drop, getD-replicate, List·getD-append, List·getD-eq-default}
+use lib.ListN.{length, drop, replicate, length-append, length-replicate, length-take}
+use lib.ListN.{length-drop, getD-replicate, List·getD-append, List·getD-eq-default}
 use lib.Seq.{ext-getD, getD-at, getD-append-seam, getD-append-add, getD-take, getD-drop}
 use Rattle.words.specs.Bytes.{at, block, part}
 use Rattle.cmac.specs.Cmac.{padding}
@@ -35,7 +36,7 @@ module _ (m : List ℕ) (o : ℕ) (low : o ≤ length m) (high : length m < o + 
   unfolding padding
   padding-length =
       let n = length (part m o 16) in
-      length-append (part m o 16) (0x80 ∷ replicate (15 - n) 0)
+      length-append (part m o 16) (_ ∷ replicate (15 - n) 0)
       ∙ ap (λ (k : ℕ). n + suc k) (length-replicate (15 - n) 0) ∙ omega (arith, part-length)
 
   padding-at : (i : ℕ) → i < 16 → at (padding (part m o 16)) i ≡ paddedByte m (o + i)

@@ -21,6 +21,6 @@ pub record ContextOf (key : List ℕ) (c : Context) : Type 0 where
   pub schedule : c .schedule ≡ keyExpansion key
   pub subkeys : c .subkeys ≡ subkeysOf key
 
--- the tag of m with the expanded key w and the subkeys k, whatever they hold
+-- the tag of m with an expanded key and subkeys, whatever they hold
 unfoldable pub tagUnder : List ℕ → List ℕ → List ℕ → List ℕ
-tagUnder w k m = cmacWith (cipherOf w) (part k 0 16) (part k 16 16) m
+tagUnder schedule subkeys m = cmacWith (cipherOf schedule) (part subkeys 0 16) (part subkeys 16 16) m

@@ -23,7 +23,8 @@ unfolding number
 number-snoc [] b = omega arith
 number-snoc (x ∷ xs) b =
     let l : length (xs ++ (b ∷ [])) ≡ suc (length xs) = length-append xs (b ∷ []) ∙ omega arith in
-    let p : x * 256 ^ suc (length xs) ≡ x * 256 ^ length xs * 256 = ap (λ (y : ℕ). x * y) (pow-suc 256 (length xs)) ∙ sym (mul-assoc x (256 ^ length xs) 256) in
+    let p : x * 256 ^ suc (length xs) ≡ x * 256 ^ length xs * 256 =
+    ap (λ (y : ℕ). x * y) (pow-suc 256 (length xs)) ∙ sym (mul-assoc x (256 ^ length xs) 256) in
     omega (arith, ap (λ (k : ℕ). x * 256 ^ k) l, p, number-snoc xs b)
 
 -- the number that the bytes of a number stand for
@@ -39,7 +40,8 @@ number-be (suc k) x h =
 pub measured-in : (anchor card lent : List ℕ) (h : Host) → length anchor ≡ anchorBytes → measured anchor card lent h ≡ h
 measured-in anchor card lent h e = rw (eq-eqb (length anchor) anchorBytes e)
 
-pub measured-out : (anchor card lent : List ℕ) (h : Host) → (length anchor ≡ anchorBytes → ⊥) → Hosts (measured anchor card lent h) refusedLength anchor card lent
+pub measured-out : (anchor card lent : List ℕ) (h : Host) → (length anchor ≡ anchorBytes → ⊥)
+    → Hosts (measured anchor card lent h) refusedLength anchor card lent
 measured-out anchor card lent h d =
     rw (ne-eqb (length anchor) anchorBytes d) (record { coded = refl; anchored = refl; left = refl; filled = refl })
 

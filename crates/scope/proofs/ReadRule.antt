@@ -8,7 +8,7 @@ use Rattle.tree.specs.Nodes.{pathNode, path}
 use Rattle.tree.specs.Limits.{firstFailing}
 use Rattle.tree.specs.Calls.{read, limits, checks}
 use Rattle.tree.specs.declared.Anchor.{Anchor}
-use Rattle.tree.proofs.LimitLaws.{Reads, passed}
+use Rattle.tree.proofs.LimitLaws.{passed}
 use Rattle.tree.proofs.NodeLaws.{among}
 use Rattle.tree.proofs.WriteLaws.{Right}
 use Rattle.tree.proofs.CallLaws.{read-checks, accepted, accept, outcome-answer}
@@ -16,7 +16,8 @@ use Rattle.scope.specs.ReadRule.{PathRight, ReadRule}
 
 module _ (a : Anchor) (card : List ℕ) (i : ℕ) (buffer : List ℕ) where
   -- what is so of every node of the path is so of every node that a read checks
-  all-right : PathRight a card i → (u : ℕ) → List·Memᴰ u (checks (a .depth) (read i buffer)) → Right (cmacOf (a .key)) (a .depth) (a .root .0) card u
+  all-right : PathRight a card i → (u : ℕ) → List·Memᴰ u (checks (a .depth) (read i buffer))
+      → Right (cmacOf (a .key)) (a .depth) (a .root .0) card u
   unfolding checks path
   all-right f u m =
       let k = among (a .depth) (λ y. pathNode (a .depth) i y ∷ []) u m in

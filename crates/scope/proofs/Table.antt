@@ -12,25 +12,26 @@ use Rattle.tree.specs.Numbers.{be8}
 use Rattle.tree.specs.Layout.{IsNode, size, offset, cardLength, label}
 use Rattle.tree.specs.Nodes.{pathNode}
 use Rattle.tree.specs.Labels.{labels, raised, newLabels}
-use Rattle.tree.specs.Card.{blanked, written}
+use Rattle.tree.specs.Card.{written}
 use Rattle.tree.specs.Ranges.{rangesTo}
 use Rattle.tree.specs.Limits.{firstFailing}
-use Rattle.tree.specs.Calls.{Call, write, limits, Outcome, answerOf, done, outcome, formatAnswer, formatCard, format}
+use Rattle.tree.specs.Calls.{Call, write, limits, Outcome, answerOf, done, outcome, formatCard, format}
 use Rattle.tree.specs.declared.Anchor.{Anchor}
 use Rattle.tree.specs.declared.Answer.{Answer}
 use Rattle.tree.specs.declared.Answer.the-variants.{Whole}
 use Rattle.tree.proofs.LabelLaws.{labels-below}
 use Rattle.tree.proofs.LimitLaws.{Writes}
-use Rattle.tree.proofs.WriteLaws.{written-length, written-labels, Clean, clean-blanked, clean-written}
-use Rattle.tree.proofs.CallLaws.{accepted, clean-accepts, outcome-answer, outcome-done, format-accept}
-use Rattle.scope.specs.Table.{anchor, refused, once, RowF, first, second, RowG, Table}
+use Rattle.tree.proofs.WriteLaws.{written-length, written-labels, Clean, clean-blanked}
+use Rattle.tree.proofs.CallLaws.{accepted, clean-accepts, clean-done, outcome-answer, outcome-done, format-accept}
+use Rattle.scope.specs.Table.{anchor, refused, RowF, RowG, Table}
 
 module _ (F : List ℕ → List ℕ) (F16 : (m : List ℕ) → length (F m) ≡ 16) where
   -- a write's new labels, on the card that it left
   left : (n : ℕ) → 1 ≤ n → (t : ℕ) (card : List ℕ) (i : ℕ) (b : List ℕ) → length card ≡ cardLength n → i < 2 ^ n → length b ≡ 64
       → (u : ℕ) → IsNode n u → label n (written F n t t card i b) u ≡ newLabels n t i b (labels n t card) u
   left n deep t card i b full inside long u h =
-      sym (labels-below n (t + n) (written F n t t card i b) u (h .low)) ∙ written-labels F F16 n deep t t card i b full inside long u (inr h)
+      sym (labels-below n (t + n) (written F n t t card i b) u (h .low))
+      ∙ written-labels F F16 n deep t t card i b full inside long u (inr h)
 
   -- a format's card has every tag right, and on such a card a write within its limits is accepted
   formatted : (key : List ℕ) (n : ℕ) (card : List ℕ) → 1 ≤ n → n ≤ 16 → length card ≡ cardLength n → Clean F n 0 (format F key n card .card)
@@ -43,7 +44,8 @@ module _ (F : List ℕ → List ℕ) (F16 : (m : List ℕ) → length (F m) ≡ 
     abbrev call : Call
     call = write i b r
 
-    within : Clean F (a .depth) (a .root .0) card → Writes (a .depth) (a .root .0) card i b r → outcome F a card (write i b r) .answer ≡ Whole
+    within : Clean F (a .depth) (a .root .0) card → Writes (a .depth) (a .root .0) card i b r
+        → outcome F a card (write i b r) .answer ≡ Whole
     within clean p = outcome-answer F a card call ∙ clean-accepts F a card clean call p
 
     -- what an accepted write did, and which limits it passed
@@ -110,9 +112,9 @@ module _ (F : List ℕ → List ℕ) (F16 : (m : List ℕ) → length (F m) ≡ 
           let n = row-g-nonces card b long c full longc in
           rw (did (anchor key 2 2) (written F 2 0 0 card 2 b) 0 c s w) (n .0, n .1, refl)
 
-      then-accepted : (card : List ℕ) → Clean F 2 0 card → then card .answer ≡ Whole
-      then-accepted card clean =
-          let left = clean-written F F16 2 (omega arith) 0 0 card 2 b (omega arith) long clean in
+      then-accepted : (card : List ℕ) → Clean F 2 0 card → Writes 2 0 card 2 b r → then card .answer ≡ Whole
+      then-accepted card clean p =
+          let left = clean-done F F16 (anchor key 2 0) card (write 2 b r) p clean in
           within (anchor key 2 2) (written F 2 0 0 card 2 b) 0 c s left
           (record {
             sound = record { deep = omega arith; shallow = omega arith; multiple = refl; full = left .full };
@@ -127,15 +129,15 @@ module _ (F : List ℕ → List ℕ) (F16 : (m : List ℕ) → length (F m) ≡ 
           record {
             accepted = λ card full.
                 let clean = formatted key 2 card (omega arith) (omega arith) full in
-                let w = within (anchor key 2 0) (format F key 2 card .card) 2 b r clean
-                (record {
+                let p : Writes 2 0 (format F key 2 card .card) 2 b r = record {
                   sound = record { deep = omega arith; shallow = omega arith; multiple = refl; full = clean .full };
                   inside = omega arith;
                   long = long;
                   room = omega arith;
                   unspent = omega arith;
-                }) in
-                (w, rw (did (anchor key 2 0) (format F key 2 card .card) 2 b r w) (then-accepted (format F key 2 card .card) clean));
+                } in
+                let w = within (anchor key 2 0) (format F key 2 card .card) 2 b r clean p in
+                (w, rw (did (anchor key 2 0) (format F key 2 card .card) 2 b r w) (then-accepted (format F key 2 card .card) clean p));
             nonces = λ card w v.
                 let e = did (anchor key 2 0) card 2 b r w in
                 let o = passed (anchor key 2 0) card 2 b r w in

@@ -57,4 +57,5 @@ node-small F a card c =
 pub format-node : (F : List ℕ → List ℕ) (key : List ℕ) (n : ℕ) (card : List ℕ) → nodeOf (format F key n card .answer) < 131072
 unfolding format formatAnswer
 format-node F key n card =
-    verdict-node (firstFailing (depthLimit n ∷ cardLimit n (length card) ∷ [])) none (λ u p w. let z : _≡_ {A = ℕ} 0 1 = cc in absurd (omega arith))
+    verdict-node (firstFailing (depthLimit n ∷ cardLimit n (length card) ∷ [])) none
+    (λ u p w. let z : _≡_ {A = ℕ} 0 1 = cc in absurd (omega arith))

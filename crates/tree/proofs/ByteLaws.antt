@@ -6,7 +6,8 @@ use Prim.Native.Nat.{ℕ, zero, suc, _+_, _/_, _%_, _^_, _<_, _≤_}
 use native.Mathlib.Nat.{pow-suc}
 use native.Mathlib.Omega.{arith}
 use lib.ListN.{length, take, drop, set, length-append, length-take, length-drop, drop-of-length-le}
-use lib.Seq.{take-append-seam, drop-append-seam, take-at, drop-at, getD-take, getD-drop, getD-set-other, ext-getD, drop-drop, length-take-le, sets, length-sets, sets-eq}
+use lib.Seq.{take-append-seam, drop-append-seam, take-at, drop-at, getD-take, getD-drop, getD-set-other}
+use lib.Seq.{ext-getD, drop-drop, length-take-le, sets, length-sets, sets-eq}
 use Rattle.words.specs.Bytes.{at, part}
 use Rattle.words.specs.Words.{bytes}
 use Rattle.tree.specs.Numbers.{be}
@@ -28,7 +29,8 @@ unfolding be
 be-inj zero x y hx hy e = omega arith
 be-inj (suc k) x y hx hy e =
     let p = pow-suc 256 k in
-    let q = append-inj (be k (x / 256)) (x % 256 ∷ []) (be k (y / 256)) (y % 256 ∷ []) (length-be k (x / 256) ∙ sym (length-be k (y / 256))) e in
+    let q = append-inj (be k (x / 256)) (x % 256 ∷ []) (be k (y / 256)) (y % 256 ∷ [])
+    (length-be k (x / 256) ∙ sym (length-be k (y / 256))) e in
     let high : x / 256 ≡ y / 256 = be-inj k (x / 256) (y / 256) (omega arith) (omega arith) (q .0) in
     let low : x % 256 ≡ y % 256 = cc (q .1) in
     omega arith

@@ -11,8 +11,8 @@ use Rattle.tree.specs.Layout.{IsNode, IsCard, cardLength, tag}
 use Rattle.tree.specs.Nodes.{pathNode, pairs, pairsButLeaf}
 use Rattle.tree.specs.Labels.{message, labels}
 use Rattle.tree.specs.Card.{right, firstWrong}
-use Rattle.tree.specs.Limits.{depthLimit, cardLimit, firstFailing}
-use Rattle.tree.specs.Calls.{Call, read, write, check, limits, checks, verdict, formatAnswer, answerOf, done, settled, outcome}
+use Rattle.tree.specs.Limits.{depthLimit, cardLimit}
+use Rattle.tree.specs.Calls.{Call, read, write, check, checks, verdict, formatAnswer, answerOf, done, settled, outcome}
 use Rattle.tree.specs.declared.Node.{Node}
 use Rattle.tree.specs.declared.Anchor.{Anchor}
 use Rattle.tree.specs.declared.Refusal.{Refusal}
@@ -22,7 +22,7 @@ use Rattle.words.specs.Bytes.{same}
 use Rattle.words.proofs.Same.{same-is, same-refl}
 use Rattle.tree.proofs.LayoutLaws.{AllNodes}
 use Rattle.tree.proofs.NodeLaws.{pair-checked, checked-pair, pair-node, path-among, path-is-node, node-among, among-node}
-use Rattle.tree.proofs.WriteLaws.{Right, Clean}
+use Rattle.tree.proofs.WriteLaws.{Right, Clean, clean-written}
 use Rattle.tree.proofs.LimitLaws.{no-limits, passes, pass, is-equal, equal-is, depth-passes, depth-in, Passes, passed, pass-all}
 
 -- Tags
@@ -56,7 +56,8 @@ module _ (F : List ℕ → List ℕ) (n t : ℕ) (card : List ℕ) where
   wrong-among [] u e = let z : _≡_ {A = ℕ} 0 1 = cc in absurd (omega arith)
   wrong-among (w ∷ us) u e = go (wrong-among us u) (right F n t card w) e
     where
-      go : (firstWrong F n t card us ≡ some u → List·Memᴰ u us) → (b : Bool) → cond b (firstWrong F n t card us) (some w) ≡ some u → List·Memᴰ u (w ∷ us)
+      go : (firstWrong F n t card us ≡ some u → List·Memᴰ u us) → (b : Bool) → cond b (firstWrong F n t card us) (some w) ≡ some u
+          → List·Memᴰ u (w ∷ us)
       go rest true e = List·Memᴰ·tail (rest e)
       go rest false e = let p : u ≡ w = cc in List·Memᴰ·head p
 
@@ -110,7 +111,8 @@ module _ (F : List ℕ → List ℕ) (a : Anchor) (card : List ℕ) (c : Call) w
   pub accept : Accepted → answerOf F a card c ≡ Whole
   unfolding answerOf
   accept h =
-      rw (pass-all a card c (h .limits-passed)) (ap (verdict none) (wrong-none F (a .depth) (a .root .0) card (checks (a .depth) c) (h .tags-right)))
+      rw (pass-all a card c (h .limits-passed))
+      (ap (verdict none) (wrong-none F (a .depth) (a .root .0) card (checks (a .depth) c) (h .tags-right)))
 
   -- where every tag that it checks is right, a call names no wrong one
   pub never-wrong : (Passes a card c → (u : ℕ) → List·Memᴰ u (checks (a .depth) c) → Right F (a .depth) (a .root .0) card u) → (u : Node)
@@ -120,13 +122,20 @@ module _ (F : List ℕ → List ℕ) (a : Anchor) (card : List ℕ) (c : Call) w
       let v = verdict-wrong _ _ u e in
       v .1 (wrong-none F (a .depth) (a .root .0) card (checks (a .depth) c) (f (passed a card c (v .0))))
 
--- On a card where every tag is right a call is accepted within its limits, and names no wrong tag in any case.
+-- on a card where every tag is right a call is accepted within its limits
 module _ (F : List ℕ → List ℕ) (a : Anchor) (card : List ℕ) (clean : Clean F (a .depth) (a .root .0) card) (c : Call) where
   pub clean-accepts : Passes a card c → answerOf F a card c ≡ Whole
   clean-accepts p = accept F a card c (record { limits-passed = p; tags-right = λ u m. clean .right u (checks-nodes a card c p u m) })
 
-  pub clean-answers : (u : Node) → answerOf F a card c ≡ Wrong u → ⊥
-  clean-answers = never-wrong F a card c (λ p u m. clean .right u (checks-nodes a card c p u m))
+-- and leaves such a card, under the anchor that it leaves
+module _ (F : List ℕ → List ℕ) (F16 : (m : List ℕ) → length (F m) ≡ 16) (a : Anchor) (card : List ℕ) where
+  pub clean-done : (c : Call) → Passes a card c → Clean F (a .depth) (a .root .0) card →
+      let o = done F a card c in
+      Clean F (o .anchor .depth) (o .anchor .root .0) (o .card)
+  clean-done (read i buffer) p clean = clean
+  clean-done (write i block ranges) p clean =
+      clean-written F F16 (a .depth) (p .sound .deep) (a .root .0) (a .root .0) card i block (p .inside) (p .long) clean
+  clean-done check p clean = clean
 
 -- Outcomes
 

@@ -81,7 +81,8 @@ module _ (F : List ℕ → List ℕ) (F16 : (m : List ℕ) → length (F m) ≡ 
               (λ (q : offset n u + (size n u + 16) ≤ offset n w). inr (omega arith)) (entry-apart n w u hw h d));
         }
 
-  stamp-byte : (card : List ℕ) → length card ≡ cardLength n → (u : ℕ) → IsNode n u → (j x : ℕ) → Leaves n L u j x → at card j ≡ x → at (stamp F n L card u) j ≡ x
+  stamp-byte : (card : List ℕ) → length card ≡ cardLength n → (u : ℕ) → IsNode n u → (j x : ℕ) → Leaves n L u j x → at card j ≡ x
+      → at (stamp F n L card u) j ≡ x
   stamp-byte card full u h j x (inl o) e =
       let l = entry-length u h in
       at-sets-apart (L u ++ F (message L u)) card (offset n u) j

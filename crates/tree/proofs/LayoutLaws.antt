@@ -74,7 +74,8 @@ size-low n u =
 pub entry-apart : (n u w : ℕ) → IsNode n u → IsNode n w → (u ≡ w → ⊥)
     → (offset n u + (size n u + 16) ≤ offset n w) ⊎ (offset n w + (size n w + 16) ≤ offset n u)
 entry-apart n u w hu hw d =
-    ⊎-elim (λ (l : u < w). inl (entry-before n u w (hu .low) l)) (λ (g : w ≤ u). inr (entry-before n w u (hw .low) (omega arith))) (below-or-not u w)
+    ⊎-elim (λ (l : u < w). inl (entry-before n u w (hu .low) l)) (λ (g : w ≤ u). inr (entry-before n w u (hw .low) (omega arith)))
+    (below-or-not u w)
 
 pub length-label : (n : ℕ) (card : List ℕ) (u : ℕ) → length card ≡ cardLength n → IsNode n u → length (label n card u) ≡ size n u
 unfolding label

@@ -178,7 +178,8 @@ passes-sound a card (read i buffer) p = p .sound
 passes-sound a card (write i block ranges) p = p .sound
 passes-sound a card check p = p
 
-own-passed : (a : Anchor) (card : List ℕ) (c : Call) → Sound (a .depth) (a .root .0) card → firstFailing (ownLimits a c) ≡ none → Passes a card c
+own-passed : (a : Anchor) (card : List ℕ) (c : Call) → Sound (a .depth) (a .root .0) card → firstFailing (ownLimits a c) ≡ none
+    → Passes a card c
 own-passed a card (read i buffer) s e =
     let q = passes _ _ e in
     let r = passes _ _ (q .1) in

@@ -1,6 +1,7 @@
 -- The ranges that a write changes: how many, how long, in order and on the card; and nothing changes outside them.
 use mathlib.Core.Path.{_≡_, refl, sym, ap, subst, _∙_}
-use mathlib.Core.List.{List, [], _∷_, _++_, append-assoc, append-nil, List·Memᴰ, List·Memᴰ·head, List·Memᴰ·tail, List·Memᴰ·cases-cons, List·Memᴰ·not-nil, Memᴰ·append-left, Memᴰ·append-right}
+use mathlib.Core.List.{List, [], _∷_, _++_, append-assoc, append-nil, List·Memᴰ, List·Memᴰ·head, List·Memᴰ·tail}
+use mathlib.Core.List.{List·Memᴰ·cases-cons, List·Memᴰ·not-nil, Memᴰ·append-left, Memᴰ·append-right}
 use mathlib.Core.Logic.{_⊎_, inl, inr, ⊎-elim}
 use Prim.Native.Nat.{ℕ, zero, suc, _+_, _*_, _-_, _/_, _^_, _<_, _≤_}
 use native.Mathlib.Nat.{eq-or-lt-of-le, pow-suc}
@@ -69,7 +70,8 @@ length-encode (r ∷ rs) =
     simp length-append (omega (arith, length-be 4 (r .start), length-be 4 (r .count), length-encode rs))
 
 -- ranges stored behind others
-encode-stored : (s : List ℕ) (rs ss : List Range) (o : ℕ) → 8 * length rs ≡ o → sets (sets s 0 (encode rs)) o (encode ss) ≡ sets s 0 (encode (rs ++ ss))
+encode-stored : (s : List ℕ) (rs ss : List Range) (o : ℕ) → 8 * length rs ≡ o
+    → sets (sets s 0 (encode rs)) o (encode ss) ≡ sets s 0 (encode (rs ++ ss))
 encode-stored s rs ss o e =
     let k : 0 + length (encode rs) ≡ o = omega (arith, length-encode rs) in
     sym (ap (sets s 0) (encode-append rs ss) ∙ sets-append s 0 (encode rs) (encode ss)
@@ -106,7 +108,12 @@ pair-total : (n u : ℕ) → rangeOf n u (2 * (u / 2)) .count + rangeOf n u (2 *
 pair-total n u =
     ⊎-elim
     (λ (e : 2 * (u / 2) ≡ u).
-    omega (arith, range-own n u (2 * (u / 2)) e, range-other n u (2 * (u / 2) + 1) (λ (z : 2 * (u / 2) + 1 ≡ u). omega arith), ap (size n) e))
+    omega (
+      arith,
+      range-own n u (2 * (u / 2)) e,
+      range-other n u (2 * (u / 2) + 1) (λ (z : 2 * (u / 2) + 1 ≡ u). omega arith),
+      ap (size n) e,
+    ))
     (λ (d : 2 * (u / 2) ≡ u → ⊥).
     let e : 2 * (u / 2) + 1 ≡ u = omega arith in
     omega (arith, range-other n u (2 * (u / 2)) d, range-own n u (2 * (u / 2) + 1) e, ap (size n) e))
@@ -176,7 +183,8 @@ module _ (n i : ℕ) where
         let x = entry-before n (2 * (u / 2)) (2 * (u / 2) + 1) (omega (arith, v)) (omega arith) in
         let y = entry-before n (2 * (u / 2) + 1) (2 * 2 ^ suc k) (omega (arith, v)) (omega (arith, v)) in
         let z = offset-mono n (2 * 2 ^ k) (2 * (u / 2)) (omega arith) (omega (arith, v)) in
-        rising-append 0 (rangesTo n i k) (offset n (2 * 2 ^ k)) (rangePair n i (suc k)) (offset n (2 * 2 ^ suc k)) (ranges-rising k (omega arith))
+        rising-append 0 (rangesTo n i k) (offset n (2 * 2 ^ k)) (rangePair n i (suc k)) (offset n (2 * 2 ^ suc k))
+        (ranges-rising k (omega arith))
         (omega (arith, a .low), (omega (arith, a, b), omega (arith, b)))
 
     -- the ranges of a write are sorted, apart and on the card
@@ -249,7 +257,8 @@ among-ranges n i (suc k) y h r m =
     (λ (l : suc y < suc k). Memᴰ·append-left (rangePair n i (suc k)) (among-ranges n i k y (omega arith) r m))
     (eq-or-lt-of-le h)
 
-module _ (F : List ℕ → List ℕ) (F16 : (m : List ℕ) → length (F m) ≡ 16) (n t r : ℕ) (card : List ℕ) (i : ℕ) (b : List ℕ) (full : length card ≡ cardLength n) (inside : i < 2 ^ n) (long : length b ≡ 64) where
+module _ (F : List ℕ → List ℕ) (F16 : (m : List ℕ) → length (F m) ≡ 16) (n t r : ℕ) (card : List ℕ) (i : ℕ) (b : List ℕ)
+    (full : length card ≡ cardLength n) (inside : i < 2 ^ n) (long : length b ≡ 64) where
   abbrev L : Labels
   L = newLabels n r i b (labels n t card)
 
@@ -290,7 +299,8 @@ module _ (F : List ℕ → List ℕ) (F16 : (m : List ℕ) → length (F m) ≡ 
                 ∙ label-byte w k (omega arith) ∙ ap (at card) e;
           }
 
-      go : (w ≡ u) ⊎ (w ≡ u → ⊥) → (j < rangeOf n u w .start) ⊎ (rangeOf n u w .start + rangeOf n u w .count ≤ j) → Leaves n L w j (at card j)
+      go : (w ≡ u) ⊎ (w ≡ u → ⊥) → (j < rangeOf n u w .start) ⊎ (rangeOf n u w .start + rangeOf n u w .count ≤ j)
+          → Leaves n L w j (at card j)
       go (inl e) (inl l) = inl (inl (omega (arith, range-own n u w e)))
       go q (inr g) = inl (inr (omega (arith, range-ends n u w)))
       go (inr d) (inl l) =
@@ -300,5 +310,6 @@ module _ (F : List ℕ → List ℕ) (F16 : (m : List ℕ) → length (F m) ≡ 
   pub written-outside : (j : ℕ) → Outside j (rangesOf n i) → at (written F n t r card i b) j ≡ at card j
   unfolding written
   written-outside j out =
-      stamped-byte F F16 n L (new-sized n r i b inside (labels n t card) long (labels-sized n t card full)) (pairs n i) (pair-node n i inside) card full j
+      stamped-byte F F16 n L (new-sized n r i b inside (labels n t card) long (labels-sized n t card full)) (pairs n i)
+      (pair-node n i inside) card full j
       (at card j) (λ w m. leaves j out w (pairs-child n i inside w m)) refl

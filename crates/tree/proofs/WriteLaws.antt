@@ -9,8 +9,10 @@ use Rattle.tree.specs.Layout.{IsNode, cardLength, label, tag}
 use Rattle.tree.specs.Nodes.{pairs, allNodes}
 use Rattle.tree.specs.Labels.{Labels, message, labels, blankLabels, newLabels}
 use Rattle.tree.specs.Card.{blanked, written}
-use Rattle.tree.proofs.NodeLaws.{Off, Child, pairs-child, child-pairs, child-node, pair-node, child-or-off, off-child, node-among, among-node}
-use Rattle.tree.proofs.LabelLaws.{Sized, message-same, labels-root, labels-below, labels-sized, parent-node, blank-sized, blank-root, new-off, new-root, new-sized}
+use Rattle.tree.proofs.NodeLaws.{Off, Child, pairs-child, child-pairs, child-node, pair-node}
+use Rattle.tree.proofs.NodeLaws.{child-or-off, off-child, node-among, among-node}
+use Rattle.tree.proofs.LabelLaws.{Sized, message-same, labels-root, labels-below, labels-sized, parent-node}
+use Rattle.tree.proofs.LabelLaws.{blank-sized, blank-root, new-off, new-root, new-sized}
 use Rattle.tree.proofs.CardLaws.{Alike, Shows, length-stamped, stamped-shows, stamped-keeps}
 
 -- the tag of u on a card read under the root nonce t is that of its message
@@ -52,7 +54,8 @@ module _ (F : List ℕ → List ℕ) (F16 : (m : List ℕ) → length (F m) ≡ 
 
   -- Write
 
-  module _ (t r : ℕ) (card : List ℕ) (i : ℕ) (b : List ℕ) (full : length card ≡ cardLength n) (inside : i < 2 ^ n) (long : length b ≡ 64) where
+  module _ (t r : ℕ) (card : List ℕ) (i : ℕ) (b : List ℕ) (full : length card ≡ cardLength n) (inside : i < 2 ^ n)
+      (long : length b ≡ 64) where
     abbrev L : Labels
     L = newLabels n r i b (labels n t card)
 
@@ -66,7 +69,8 @@ module _ (F : List ℕ → List ℕ) (F16 : (m : List ℕ) → length (F m) ≡ 
     pub written-shows : (w : ℕ) → Child n i inside w → Shows F F16 n L sized (written F n t r card i b) w
     unfolding written
     written-shows w c =
-        stamped-shows F F16 n L sized (pairs n i) (pair-node n i inside) card full w (child-node n i inside w c) (inr (child-pairs n i inside w c))
+        stamped-shows F F16 n L sized (pairs n i) (pair-node n i inside) card full w (child-node n i inside w c)
+        (inr (child-pairs n i inside w c))
 
     pub written-keeps : (w : ℕ) → IsNode n w → Off n i inside n (w / 2) → Alike n (written F n t r card i b) card w
     unfolding written

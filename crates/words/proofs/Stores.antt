@@ -16,13 +16,15 @@ sets-append l i [] ys = rw add-zero
 sets-append l i (x ∷ xs) ys = rw (add-suc, ← suc-add i (length xs)) (sets-append (set l i x) (suc i) xs ys)
 
 -- the loop that stores x byte by byte: one more
-pub sets-more : (l : List ℕ) (o : ℕ) (x : List ℕ) (i : ℕ) → i < length x → set (sets l o (take i x)) (o + i) (at x i) ≡ sets l o (take (i + 1) x)
+pub sets-more : (l : List ℕ) (o : ℕ) (x : List ℕ) (i : ℕ) → i < length x
+    → set (sets l o (take i x)) (o + i) (at x i) ≡ sets l o (take (i + 1) x)
 sets-more l o x i h =
     let n : length (take i x) ≡ i = length-take-le i x (omega arith) in
     sym (ap (λ (k : ℕ). sets l o (take k x)) (add-one i) ∙ ap (sets l o) (take-suc x i 0 h) ∙ sets-append l o (take i x) (at x i ∷ [])
     ∙ ap (λ (k : ℕ). set (sets l o (take i x)) (o + k) (at x i)) n)
 
-pub sets-halves : (l : List ℕ) (o v : ℕ) → sets (sets l o (bytes 4 (v % 4294967296))) (o + 4) (bytes 4 (v / 4294967296)) ≡ sets l o (bytes 8 v)
+pub sets-halves : (l : List ℕ) (o v : ℕ)
+    → sets (sets l o (bytes 4 (v % 4294967296))) (o + 4) (bytes 4 (v / 4294967296)) ≡ sets l o (bytes 8 v)
 sets-halves l o v =
     sym (ap (sets l o) (sym (bytes-halves v)) ∙ sets-append l o (bytes 4 (v % 4294967296)) (bytes 4 (v / 4294967296)))
 

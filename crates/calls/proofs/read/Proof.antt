@@ -32,7 +32,8 @@ sound c =
 left0 : (c : tie.After-enum-told) → Left (start (c .before .before)) 0
 left0 c =
     let first = c .before .before in
-    own-decide (start first .args .anchor) (now (start first .args .card)) (first .first .ensures) (c .enum-told .given .1) (call (start first))
+    own-decide (start first .args .anchor) (now (start first .args .card)) (first .first .ensures) (c .enum-told .given .1)
+    (call (start first))
 
 abbrev start1 : tie.After-enum-told2 → tie.Start
 start1 c = start (c .before .before .before .before .before)
@@ -47,7 +48,8 @@ returns : tie.Need-returns
 returns c =
     let first = c .before in
     let s = start first in
-    gives-first (cmacOf (s .args .anchor .key)) (s .args .anchor) (now (s .args .card)) (call s) (first .first .result) (first .first .ensures)
+    gives-first (cmacOf (s .args .anchor .key)) (s .args .anchor) (now (s .args .card)) (call s) (first .first .result)
+    (first .first .ensures)
     (c .match .keys2)
 
 returns-2 : tie.Need-returns-2

@@ -32,7 +32,8 @@ sound c =
 left0 : (c : tie.After-enum-told) → Left (start (c .before .before)) 0
 left0 c =
     let first = c .before .before in
-    own-decide (start first .args .anchor) (now (start first .args .card)) (first .first .ensures) (c .enum-told .given .1) (call (start first))
+    own-decide (start first .args .anchor) (now (start first .args .card)) (first .first .ensures) (c .enum-told .given .1)
+    (call (start first))
 
 abbrev start1 : tie.After-enum-told2 → tie.Start
 start1 c = start (c .before .before .before .before .before)
@@ -59,7 +60,8 @@ returns : tie.Need-returns
 returns c =
     let first = c .before in
     let s = start first in
-    gives-first (cmacOf (s .args .anchor .key)) (s .args .anchor) (now (s .args .card)) (call s) (first .first .result) (first .first .ensures)
+    gives-first (cmacOf (s .args .anchor .key)) (s .args .anchor) (now (s .args .card)) (call s) (first .first .result)
+    (first .first .ensures)
     (c .match .keys2)
 
 returns-2 : tie.Need-returns-2
@@ -92,7 +94,8 @@ returns-5 c =
     let s = start3 (told .before .before .before .before) in
     rw (c .refused4 .ensures .0, c .refused4 .ensures .1)
     (refuses (cmacOf (s .args .anchor .key)) (s .args .anchor) (now (s .args .card)) (call s) _
-    (left3 (told .before .before .before .before) ∙ stop _ _ (sym (told .before .before .nonces-spent .ensures) ∙ told .enum-told9 .given .1)))
+    (left3 (told .before .before .before .before)
+    ∙ stop _ _ (sym (told .before .before .nonces-spent .ensures) ∙ told .enum-told9 .given .1)))
 
 pub write-spec : {M : Type 1} → statement M
 write-spec =

@@ -29,7 +29,8 @@ loop-again c =
     let w = now (turn .before .before .before .before .before .args .schedule) in (
       search needs,
       c .whole .ensures
-          ∙ ap₂ (λ (s k : List ℕ). addRoundKey (mixColumns (shiftRows (subBytes s))) k) (turn .loop .inv .1) (c .before .columns-at .ensures)
+          ∙ ap₂ (λ (s k : List ℕ). addRoundKey (mixColumns (shiftRows (subBytes s))) k) (turn .loop .inv .1)
+          (c .before .columns-at .ensures)
           ∙ sym (rounds-more w _ (turn .loop .i)),
     )
 

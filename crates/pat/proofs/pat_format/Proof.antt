@@ -29,13 +29,18 @@ returns-3 c =
     let anchor-of = made .before .before .before in
     let s = anchor-of .before .before .before .before .before .args in
     let a = anchor-of .of .result in
-    rw (host-format (now (s .anchor)) (now (s .card)) a (anchor-of .of .ensures) (anchor-of .before .before .if1 .left), put .put-root .ensures)
-    (hosted-moved (now (s .anchor)) _ (made .format .result .answer) (made .format .result .anchor) _ _ (made .format .ensures) (told .enum-told .given .1))
+    rw (
+      host-format (now (s .anchor)) (now (s .card)) a (anchor-of .of .ensures) (anchor-of .before .before .if1 .left),
+      put .put-root .ensures,
+    )
+    (hosted-moved (now (s .anchor)) _ (made .format .result .answer) (made .format .result .anchor) _ _ (made .format .ensures)
+    (told .enum-told .given .1))
 
 pub pat-format-spec : {M : Type 1} → statement M
 pat-format-spec =
     tie.close
     (tie.spec
     returns (λ c κs. search needs) (λ c κs. search needs) (λ c. search needs)
-    (λ c κs. rw (c .before .before .before .format .ensures .answered) (format-node _ _ _ _)) (λ c. search needs) (λ c. search needs) returns-2
+    (λ c κs. rw (c .before .before .before .format .ensures .answered) (format-node _ _ _ _)) (λ c. search needs)
+    (λ c. search needs) returns-2
     (λ c κs. search needs) (λ c. search needs) (λ c. search needs) returns-3)

@@ -19,7 +19,11 @@ returns-2 c =
     let anchor-of = was-read .before .before in
     let s = anchor-of .before .before .before .before .before .args in
     let a = anchor-of .of .result in
-    rw (host-call (now (s .anchor)) (now (s .card)) a (anchor-of .of .ensures) (anchor-of .before .if1 .left) (read (s .index) (now (s .buffer))), c .of2 .ensures)
+    rw (
+      host-call (now (s .anchor)) (now (s .card)) a (anchor-of .of .ensures) (anchor-of .before .if1 .left)
+          (read (s .index) (now (s .buffer))),
+      c .of2 .ensures,
+    )
     (hosted-kept (now (s .anchor)) _ (was-read .read .result) a (now (s .card)) _ (was-read .read .ensures) false refl)
 
 pub pat-read-spec : {M : Type 1} → statement M

@@ -18,7 +18,11 @@ returns-2 c =
     let anchor-of = wrote .before .before .before in
     let s = anchor-of .before .before .before .before .before .before .before .args in
     let a = anchor-of .of .result in
-    rw (host-call (now (s .anchor)) (now (s .card)) a (anchor-of .of .ensures) (anchor-of .before .before .if1 .left) (write (s .index) (now (s .block)) (now (s .ranges))), c .of2 .ensures)
+    rw (
+      host-call (now (s .anchor)) (now (s .card)) a (anchor-of .of .ensures) (anchor-of .before .before .if1 .left)
+          (write (s .index) (now (s .block)) (now (s .ranges))),
+      c .of2 .ensures,
+    )
     (hosted-kept (now (s .anchor)) _ (wrote .write .result .answer) (wrote .write .result .anchor) _ _ (wrote .write .ensures) true
     (not-whole (wrote .write .result .answer) (c .before .match .keys2)))
 
@@ -30,8 +34,13 @@ returns-3 c =
     let anchor-of = wrote .before .before .before in
     let s = anchor-of .before .before .before .before .before .before .before .args in
     let a = anchor-of .of .result in
-    rw (host-call (now (s .anchor)) (now (s .card)) a (anchor-of .of .ensures) (anchor-of .before .before .if1 .left) (write (s .index) (now (s .block)) (now (s .ranges))), put .put-root .ensures)
-    (hosted-moved (now (s .anchor)) _ (wrote .write .result .answer) (wrote .write .result .anchor) _ _ (wrote .write .ensures) (told .enum-told .given .1))
+    rw (
+      host-call (now (s .anchor)) (now (s .card)) a (anchor-of .of .ensures) (anchor-of .before .before .if1 .left)
+          (write (s .index) (now (s .block)) (now (s .ranges))),
+      put .put-root .ensures,
+    )
+    (hosted-moved (now (s .anchor)) _ (wrote .write .result .answer) (wrote .write .result .anchor) _ _ (wrote .write .ensures)
+    (told .enum-told .given .1))
 
 pub pat-write-spec : {M : Type 1} → statement M
 pat-write-spec =

@@ -17,7 +17,8 @@ returns-4 : tie.Need-returns-4
 returns-4 c =
     let called = c .before .before in
     let last = called .before .before in
-    done (rw (eq-eqb _ _ (last .before .before .if1 .left), eq-eqb _ _ (last .before .if2 .left), eq-eqb _ _ (last .if3 .left))) (called .encrypt .ensures)
+    done (rw (eq-eqb _ _ (last .before .before .if1 .left), eq-eqb _ _ (last .before .if2 .left), eq-eqb _ _ (last .if3 .left)))
+    (called .encrypt .ensures)
 
 pub probe-encrypt-spec : {M : Type 1} → statement M
 probe-encrypt-spec =

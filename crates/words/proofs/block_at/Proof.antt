@@ -7,7 +7,9 @@ use Rattle.words.proofs.block_at.Statement.{statement}
 use Rattle.words.proofs.block_at.Tie as tie
 
 returns : tie.Need-returns
-returns c = ap₂ _++_ (c .before .double-word-at .ensures) (c .double-word-at2 .ensures) ∙ sym (part-add (now (c .before .before .before .args .string)) (c .before .before .before .args .start) 8 8)
+returns c =
+    ap₂ _++_ (c .before .double-word-at .ensures) (c .double-word-at2 .ensures)
+    ∙ sym (part-add (now (c .before .before .before .args .string)) (c .before .before .before .args .start) 8 8)
 
 pub block-at-spec : {M : Type 1} → statement M
 block-at-spec =

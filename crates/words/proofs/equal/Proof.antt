@@ -10,7 +10,8 @@ use Rattle.words.proofs.equal.Tie as tie
 returns : tie.Need-returns
 returns c =
     let a = c .before .before .before .before .before .args in
-    ap (λ (x : Bool). x && eqb (a .left .tail) (a .right .tail)) (sym (eq-eqb (a .left .head) (a .right .head) (c .before .before .if1 .taken)))
+    ap (λ (x : Bool). x && eqb (a .left .tail) (a .right .tail))
+    (sym (eq-eqb (a .left .head) (a .right .head) (c .before .before .if1 .taken)))
     ∙ same-words (a .left .head) (a .left .tail) (a .right .head) (a .right .tail) (omega arith) (omega arith) (omega arith) (omega arith)
 
 returns-2 : tie.Need-returns-2

@@ -36,5 +36,6 @@ pub put-spec : {M : Type 1} → statement M
 put-spec =
     tie.close
     (tie.spec
-    Inv-loop μ-loop loop-holds (λ c. omega arith) (λ c. omega arith) slice-write-string (λ c. omega arith) (λ c. omega arith) loop-again same-length
+    Inv-loop μ-loop loop-holds (λ c. omega arith) (λ c. omega arith) slice-write-string (λ c. omega arith)
+    (λ c. omega arith) loop-again same-length
     returns)

@@ -24,5 +24,6 @@ put-word-spec =
     tie.close
     (tie.spec
     (λ c κs. search needs) (λ c. search needs) (λ c. search needs) (λ c κs. search needs) (λ c. search needs)
-    (λ c. search needs) (λ c. simp length-set (omega arith)) (λ c κs. search needs) (λ c. search needs) (λ c. search needs) (λ c. simp length-set (omega arith))
+    (λ c. search needs) (λ c. simp length-set (omega arith)) (λ c κs. search needs) (λ c. search needs) (λ c. search needs)
+    (λ c. simp length-set (omega arith))
     (λ c κs. search needs) (λ c. search needs) (λ c. search needs) (λ c. simp length-set (omega arith)) (λ c. search needs) returns)

@@ -6,7 +6,10 @@ use Rattle.words.proofs.word_at.Statement.{statement}
 use Rattle.words.proofs.word_at.Tie as tie
 
 returns : tie.Need-returns
-returns c = c .word-of .ensures ∙ sym (part-four (now (c .before .before .before .before .before .before .args .string)) (c .before .before .before .before .before .before .args .start) (search needs))
+returns c =
+    c .word-of .ensures ∙ sym
+    (part-four (now (c .before .before .before .before .before .before .args .string))
+    (c .before .before .before .before .before .before .args .start) (search needs))
 
 pub word-at-spec : {M : Type 1} → statement M
 word-at-spec =

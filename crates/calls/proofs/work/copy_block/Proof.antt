@@ -26,7 +26,8 @@ place c =
     let s = c .before .before .before .before .before in
     let n = s .args .depth in
     let u = 2 ^ n + s .args .index .0 in
-    let e : c .offset .result ≡ offset n u = c .offset .ensures ∙ ap (λ (l : ℕ). offset n (l + s .args .index .0)) (c .before .before .leaves .ensures) in
+    let e : c .offset .result ≡ offset n u =
+    c .offset .ensures ∙ ap (λ (l : ℕ). offset n (l + s .args .index .0)) (c .before .before .leaves .ensures) in
     let h = entry-on n (now (s .args .card)) u (s .pre .0) (leaf-node n (s .args .index .0) (s .pre .0 .deep) (s .pre .1 .0)) in
     (e, omega (arith, e, h, leaf n u (omega arith)))
 
@@ -41,13 +42,16 @@ returns c =
     let o = offset-of .offset .result in
     let k : o + 64 - o ≡ size n u = omega (arith, leaf n u (omega arith)) in
     c .before .before .put .ensures
-    ∙ sets-whole (part card o (o + 64 - o)) (now (s .args .buffer)) (simp (length-take, length-drop) (omega (arith, place offset-of .1, s .pre .1 .1)))
+    ∙ sets-whole (part card o (o + 64 - o)) (now (s .args .buffer))
+    (simp (length-take, length-drop) (omega (arith, place offset-of .1, s .pre .1 .1)))
     ∙ ap₂ (part card) (place offset-of .0) k
 
 pub copy-block-spec : {M : Type 1} → statement M
 copy-block-spec =
     tie.close
     (tie.spec
-    (λ c κs. search needs) (λ c. search needs) (λ c κs. ((c .before .before .before .before .pre .0 .deep, c .before .before .before .before .pre .0 .shallow), is-node (c .before)))
-    (λ c. omega (arith, place c .1)) (λ c. search needs) (λ c. search needs) (λ c. omega (arith, place (c .before) .1)) (λ c κs. search needs)
+    (λ c κs. search needs) (λ c. search needs)
+    (λ c κs. ((c .before .before .before .before .pre .0 .deep, c .before .before .before .before .pre .0 .shallow), is-node (c .before)))
+    (λ c. omega (arith, place c .1)) (λ c. search needs) (λ c. search needs) (λ c. omega (arith, place (c .before) .1))
+    (λ c κs. search needs)
     (λ c. search needs) returns)

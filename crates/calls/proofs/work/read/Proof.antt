@@ -1,7 +1,7 @@
 use mathlib.Core.Path.{_≡_, ap, _∙_}
 use mathlib.Core.List.{List}
 use mathlib.Core.Option.{none}
-use Prim.Native.Nat.{ℕ, _-_}
+use Prim.Native.Nat.{ℕ}
 use denote.Ref.{now}
 use Rattle.cmac.specs.Cmac.{cmacOf}
 use Rattle.cmac.proofs.Laws.{tags-of-context}
@@ -14,7 +14,8 @@ use borrow.Author.Needs.{needs}
 use Rattle.calls.proofs.work.read.Statement.{statement}
 use Rattle.calls.proofs.work.read.Tie as tie
 
-limits-passed : (s : tie.Start) → Reads (s .args .anchor .depth) (s .args .anchor .root .0) (now (s .args .card)) (s .args .index .0) (now (s .args .buffer))
+limits-passed : (s : tie.Start)
+    → Reads (s .args .anchor .depth) (s .args .anchor .root .0) (now (s .args .card)) (s .args .index .0) (now (s .args .buffer))
 limits-passed s = passed (s .args .anchor) (now (s .args .card)) (read (s .args .index .0) (now (s .args .buffer))) (s .pre)
 
 path-requires : tie.Need-path-requires
@@ -27,7 +28,8 @@ path-requires c κs =
 decided : (c : tie.After-path) →
     let s = c .before .before .before .before .before .before .before .before .before .before .before .before .args in
     let call = read (s .index .0) (now (s .buffer)) in
-    outcome (cmacOf (s .anchor .key)) (s .anchor) (now (s .card)) call ≡ settled (cmacOf (s .anchor .key)) (c .path .result) (s .anchor) (now (s .card)) call
+    outcome (cmacOf (s .anchor .key)) (s .anchor) (now (s .card)) call
+    ≡ settled (cmacOf (s .anchor .key)) (c .path .result) (s .anchor) (now (s .card)) call
 unfolding checks
 decided c =
     let context = c .before .before .before .before .before in
@@ -43,11 +45,13 @@ decided c =
 returns : tie.Need-returns
 returns c =
     let s = c .before .before .before .before .before .before .before .before .before .before .before .before .before .args in
-    gives-wrong (cmacOf (s .anchor .key)) (s .anchor) (now (s .card)) (read (s .index .0) (now (s .buffer))) (c .before .path .result) (c .match .keys2) (decided (c .before))
+    gives-wrong (cmacOf (s .anchor .key)) (s .anchor) (now (s .card)) (read (s .index .0) (now (s .buffer))) (c .before .path .result)
+    (c .match .keys2) (decided (c .before))
 
 copy-block-requires : tie.Need-copy-block-requires
 copy-block-requires c κs =
-    let p = limits-passed (c .before .before .before .before .before .before .before .before .before .before .before .before .before .before .before) in
+    let p = limits-passed
+    (c .before .before .before .before .before .before .before .before .before .before .before .before .before .before .before) in
     (sound-card (p .sound), (p .inside, p .long))
 
 returns-2 : tie.Need-returns-2
@@ -64,4 +68,5 @@ pub read-spec : {M : Type 1} → statement M
 read-spec =
     tie.close
     (tie.spec
-    (λ c κs. search needs) (λ c κs. search needs) path-requires (λ c. search needs) returns copy-block-requires (λ c. search needs) returns-2)
+    (λ c κs. search needs) (λ c κs. search needs) path-requires (λ c. search needs) returns copy-block-requires
+    (λ c. search needs) returns-2)

@@ -30,7 +30,8 @@ pairs-requires c κs =
 decided : (c : tie.After-pairs) →
     let s = c .before .before .before .before .before .before .before .before .before .before .before .before .before .before .args in
     let call = write (s .index .0) (now (s .block)) (now (s .ranges)) in
-    outcome (cmacOf (s .anchor .key)) (s .anchor) (now (s .card)) call ≡ settled (cmacOf (s .anchor .key)) (c .pairs .result) (s .anchor) (now (s .card)) call
+    outcome (cmacOf (s .anchor .key)) (s .anchor) (now (s .card)) call
+    ≡ settled (cmacOf (s .anchor .key)) (c .pairs .result) (s .anchor) (now (s .card)) call
 unfolding checks
 decided c =
     let context = c .before .before .before .before .before .before in
@@ -45,8 +46,10 @@ decided c =
 
 returns : tie.Need-returns
 returns c =
-    let s = c .before .before .before .before .before .before .before .before .before .before .before .before .before .before .before .args in
-    gives-wrong (cmacOf (s .anchor .key)) (s .anchor) (now (s .card)) (write (s .index .0) (now (s .block)) (now (s .ranges))) (c .before .pairs .result) (c .match .keys2)
+    let s =
+    c .before .before .before .before .before .before .before .before .before .before .before .before .before .before .before .args in
+    gives-wrong (cmacOf (s .anchor .key)) (s .anchor) (now (s .card)) (write (s .index .0) (now (s .block)) (now (s .ranges)))
+    (c .before .pairs .result) (c .match .keys2)
     (decided (c .before))
 
 abbrev start : tie.After-pairs → tie.Start
@@ -57,8 +60,10 @@ checked c = c .before .before .before .before .before .before .before
 
 block-requires : tie.Need-block-requires
 block-requires c κs =
-    let p = limits-passed (start (checked c)) in
-    (checked c .before .before .before .before .before .before .before .before .table .ensures, (sound-card (p .sound), (p .inside, (p .long, p .unspent))))
+    let p = limits-passed (start (checked c)) in (
+      checked c .before .before .before .before .before .before .before .before .table .ensures,
+      (sound-card (p .sound), (p .inside, (p .long, p .unspent))),
+    )
 
 fill-requires : tie.Need-fill-requires
 fill-requires c κs =
@@ -77,7 +82,8 @@ returns-2 c =
     let context = pairs-of .before .before .before .before .before .before in
     let s = start pairs-of .args in
     let made = put .block .ensures (s .anchor .root .0)
-    ∙ ap (λ (F : List ℕ → List ℕ). written F (s .anchor .depth) (s .anchor .root .0) (s .anchor .root .0) (now (s .card)) (s .index .0) (now (s .block)))
+    ∙ ap (λ (F : List ℕ → List ℕ). written F (s .anchor .depth) (s .anchor .root .0) (s .anchor .root .0) (now (s .card)) (s .index .0)
+    (now (s .block)))
     (tags-of-context (s .anchor .key) (context .context-of .result) (context .context-of .ensures)) in
     gives-write (cmacOf (s .anchor .key)) (s .anchor) (now (s .card)) (s .index .0) (now (s .block)) (now (s .ranges)) _ _
     (rw (told .enum-told .given .1) at (decided pairs-of)) made (filled .fill .ensures)
@@ -86,5 +92,6 @@ pub write-spec : {M : Type 1} → statement M
 write-spec =
     tie.close
     (tie.spec
-    (λ c κs. search needs) (λ c κs. search needs) pairs-requires (λ c. search needs) (λ c. search needs) returns block-requires fill-requires add-t29
+    (λ c κs. search needs) (λ c κs. search needs) pairs-requires (λ c. search needs)
+    (λ c. search needs) returns block-requires fill-requires add-t29
     (λ c. search needs) (λ c. search needs) returns-2)

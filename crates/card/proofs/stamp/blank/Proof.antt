@@ -26,7 +26,8 @@ abbrev μ-loop : tie.MeasureT-loop
 kept : (c : tie.At-loop Inv-loop μ-loop) → length (c .loop .card) ≡ length (now (c .before .before .before .before .args .card))
 kept c =
     let a = c .before .before .before .before .args in
-    ap length (c .loop .inv .1) ∙ stamped-length (tagUnder (now (a .schedule)) (now (a .subkeys))) (a .depth) (blankLabels (a .depth) (a .nonce .0)) _ (now (a .card))
+    ap length (c .loop .inv .1)
+    ∙ stamped-length (tagUnder (now (a .schedule)) (now (a .subkeys))) (a .depth) (blankLabels (a .depth) (a .nonce .0)) _ (now (a .card))
 
 loop-holds : tie.Need-loop-holds Inv-loop μ-loop
 unfolding stamped upTo
@@ -45,7 +46,8 @@ loop-again c =
     let a = l .before .before .before .before .args in (
       search needs,
       p .put-entry .ensures
-          ∙ blank-more (tagUnder (now (a .schedule)) (now (a .subkeys))) (a .depth) (a .nonce .0) (l .loop .y) (now (a .card)) (l .loop .card) _ (omega arith)
+          ∙ blank-more (tagUnder (now (a .schedule)) (now (a .subkeys))) (a .depth) (a .nonce .0) (l .loop .y) (now (a .card))
+          (l .loop .card) _ (omega arith)
           (l .before .before .be8 .ensures) (l .loop .inv .1),
     )
 
@@ -56,12 +58,14 @@ returns c =
     let a = l .before .before .before .before .args in
     let F = tagUnder (now (a .schedule)) (now (a .subkeys)) in
     let e : l .loop .y ≡ 2 * 2 ^ a .depth - 2 = omega arith in
-    l .loop .inv .1 ∙ ap (λ (y : ℕ). stamped F (a .depth) (blankLabels (a .depth) (a .nonce .0)) (upTo y (λ z. (z + 1) ∷ [])) (now (a .card))) e
+    l .loop .inv .1 ∙ ap (λ (y : ℕ). stamped F (a .depth) (blankLabels (a .depth) (a .nonce .0)) (upTo y (λ z. (z + 1) ∷ []))
+    (now (a .card))) e
 
 pub blank-spec : {M : Type 1} → statement M
 blank-spec =
     tie.close
     (tie.spec
     Inv-loop μ-loop (λ c κs. search needs) (λ c κs. search needs) (λ c. search needs)
-    (λ c. omega (arith, pow-pos (c .before .before .before .args .depth))) loop-holds (λ c. search needs) (λ c. search needs) (λ c. search needs)
+    (λ c. omega (arith, pow-pos (c .before .before .before .args .depth))) loop-holds (λ c. search needs) (λ c. search needs)
+    (λ c. search needs)
     put-entry-requires (λ c. search needs) loop-again (λ c. kept (c .before)) returns)

@@ -31,7 +31,8 @@ kept c =
     let a = c .before .before .before .before .args in
     ap length (c .loop .inv .1 0) ∙ stamped-length (tagUnder (now (a .schedule)) (now (a .subkeys))) (a .depth) _ _ (now (a .card))
 
-on-path : (c : tie.After-node Inv-loop μ-loop) → IsNode (c .before .before .before .before .before .before .before .args .depth) (c .node .result .0)
+on-path : (c : tie.After-node Inv-loop μ-loop)
+    → IsNode (c .before .before .before .before .before .before .before .args .depth) (c .node .result .0)
 on-path c =
     let l = c .before .before .before in
     let s = l .before .before .before .before in
@@ -60,7 +61,8 @@ put-tag-requires c κs =
     let p = e .before .before in
     let l = p .before .before .before in
     let s = l .before .before .before .before in
-    let h = v-node (s .args .depth) (s .args .index .0) (s .pre .1 .1 .0) (l .loop .level) (p .node .result .0) _ (omega arith) (p .node .ensures) (c .sibling .ensures) in
+    let h = v-node (s .args .depth) (s .args .index .0) (s .pre .1 .1 .0) (l .loop .level) (p .node .result .0) _ (omega arith)
+    (p .node .ensures) (c .sibling .ensures) in
     (s .pre .0, (same-card _ (e .put-entry .kept .1 .1 .1 .1 .0 ∙ kept l) (s .pre .1 .0), h))
 
 loop-again : tie.Need-loop-again Inv-loop μ-loop
@@ -73,13 +75,14 @@ loop-again c =
     let l = p .before .before .before in
     let s = l .before .before .before .before in
     let a = s .args in
-    let w = now (a .schedule) in
-    let k = now (a .subkeys) in (
+    let F = tagUnder (now (a .schedule)) (now (a .subkeys)) in (
       search needs,
       λ r.
           t .put-tag .ensures
-          ∙ write-more (a .depth) (a .index .0) (s .pre .1 .1 .0) (l .loop .level) (p .node .result .0) (v .result .0) (omega arith) (p .node .ensures) (v .ensures)
-          (tagUnder w k) (length-tag-under w k) (a .last .0 + a .depth) r (now (a .block)) (now (a .card)) (omega arith) (s .pre .1 .1 .1 .0) (s .pre .1 .0)
+          ∙ write-more (a .depth) (a .index .0) (s .pre .1 .1 .0) (l .loop .level) (p .node .result .0) (v .result .0) (omega arith)
+          (p .node .ensures) (v .ensures)
+          F (length-tag-under _ _) (a .last .0 + a .depth) r (now (a .block)) (now (a .card)) (omega arith)
+          (s .pre .1 .1 .1 .0) (s .pre .1 .0)
           (bytes 8 (be8 .result)) (l .loop .card) _ (be8 .ensures) (l .loop .inv .1 r) (e .put-entry .ensures),
     )
 
@@ -93,7 +96,8 @@ returns c r =
     let e : a .last .0 + a .depth - a .depth ≡ a .last .0 = omega arith in
     let k : l .loop .level ≡ a .depth = omega arith in
     l .loop .inv .1 r
-    ∙ ap₂ (λ (t y : ℕ). stamped F (a .depth) (newLabels (a .depth) t (a .index .0) (now (a .block)) M) (upTo y (pair (a .depth) (a .index .0))) (now (a .card))) e k
+    ∙ ap₂ (λ (t y : ℕ). stamped F (a .depth) (newLabels (a .depth) t (a .index .0) (now (a .block)) M)
+    (upTo y (pair (a .depth) (a .index .0))) (now (a .card))) e k
 
 pub block-spec : {M : Type 1} → statement M
 block-spec =

@@ -22,7 +22,8 @@ returns c =
     let a = s .args in
     let x = nonceOrBlock (a .depth) (a .nonce .0) (now (a .block)) (a .node .0) in
     p2 .put-tag .ensures
-    ∙ entry-put (a .depth) (now (a .card)) (a .node .0) (s .pre .1 .0) (s .pre .1 .1 .0) (tagUnder (now (a .schedule)) (now (a .subkeys))) x (bytes 8 (a .parent)) _
+    ∙ entry-put (a .depth) (now (a .card)) (a .node .0) (s .pre .1 .0) (s .pre .1 .1 .0) (tagUnder (now (a .schedule)) (now (a .subkeys))) x
+    (bytes 8 (a .parent)) _
     (put-sized (a .depth) (a .nonce .0) (now (a .block)) (a .node .0) (s .pre .1 .1 .1)) (p1 .put-label .ensures)
 
 pub put-entry-spec : {M : Type 1} → statement M

@@ -11,12 +11,20 @@ use Rattle.card.proofs.stamp.put_label.Tie as tie
 put-double-word-requires : tie.Need-put-double-word-requires
 put-double-word-requires c κs =
     let s = c .before .before .before .before .before .before .before .before in
-    omega (arith, entry-on (s .args .depth) (now (s .args .card)) (s .args .node .0) (s .pre .0) (s .pre .1 .0), inner (s .args .depth) (s .args .node .0) (omega arith))
+    omega (
+      arith,
+      entry-on (s .args .depth) (now (s .args .card)) (s .args .node .0) (s .pre .0) (s .pre .1 .0),
+      inner (s .args .depth) (s .args .node .0) (omega arith),
+    )
 
 put-requires : tie.Need-put-requires
 put-requires c κs =
     let s = c .before .before .before .before .before .before .before in
-    omega (arith, entry-on (s .args .depth) (now (s .args .card)) (s .args .node .0) (s .pre .0) (s .pre .1 .0), leaf (s .args .depth) (s .args .node .0) (omega arith))
+    omega (
+      arith,
+      entry-on (s .args .depth) (now (s .args .card)) (s .args .node .0) (s .pre .0) (s .pre .1 .0),
+      leaf (s .args .depth) (s .args .node .0) (omega arith),
+    )
 
 returns : tie.Need-returns
 returns c =

@@ -26,7 +26,8 @@ fits c =
     (omega (arith, c .before .offset .ensures, c .size .ensures, e), omega (arith, c .size .ensures, size-low (a .depth) (a .node .0)))
 
 of-requires : tie.Need-of-requires
-of-requires c κs = (c .before .before .before .before .before .pre .0, simp (length-take, length-drop) (omega (arith, fits (c .before .before))))
+of-requires c κs =
+    (c .before .before .before .before .before .pre .0, simp (length-take, length-drop) (omega (arith, fits (c .before .before))))
 
 put-block-requires : tie.Need-put-block-requires
 put-block-requires c κs = omega (arith, fits (c .before .before .before .before))
@@ -47,7 +48,8 @@ returns c =
     p .put-block .ensures
     ∙ ap₂ (sets card) (ap₂ _+_ (o .ensures) (s .ensures))
     (made .of .ensures
-    ∙ ap (λ (x : List ℕ). tagUnder (now (a .schedule)) (now (a .subkeys)) (form x (bytes 8 (a .parent)) (u % 2))) (ap₂ (part card) (o .ensures) e))
+    ∙ ap (λ (x : List ℕ). tagUnder (now (a .schedule)) (now (a .subkeys)) (form x (bytes 8 (a .parent)) (u % 2)))
+    (ap₂ (part card) (o .ensures) e))
 
 pub put-tag-spec : {M : Type 1} → statement M
 put-tag-spec =

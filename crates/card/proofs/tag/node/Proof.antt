@@ -27,8 +27,10 @@ fits c =
 
 test-requires : tie.Need-test-requires
 test-requires c κs =
-    let size-of = c .before .before .before in
-    (size-of .before .before .before .pre .0, (simp (length-take, length-drop) (omega (arith, fits size-of)), simp (length-take, length-drop) (omega (arith, fits size-of))))
+    let size-of = c .before .before .before in (
+      size-of .before .before .before .pre .0,
+      (simp (length-take, length-drop) (omega (arith, fits size-of)), simp (length-take, length-drop) (omega (arith, fits size-of))),
+    )
 
 returns : tie.Need-returns
 unfolding label tag

@@ -20,7 +20,12 @@ double-word-at-requires : tie.Need-double-word-at-requires
 double-word-at-requires c κs =
     let a = c .before .before .before .before .args in
     let p = c .before .before .before .before .pre in
-    omega (arith, c .offset .ensures, entry-on (a .depth) (now (a .card)) (a .node .0) (p .0) (search needs), inner (a .depth) (a .node .0) (omega arith))
+    omega (
+      arith,
+      c .offset .ensures,
+      entry-on (a .depth) (now (a .card)) (a .node .0) (p .0) (search needs),
+      inner (a .depth) (a .node .0) (omega arith),
+    )
 
 returns-2 : tie.Need-returns-2
 returns-2 c =

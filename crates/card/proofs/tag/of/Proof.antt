@@ -30,5 +30,6 @@ of-spec =
     tie.close
     (tie.spec
     (λ c. search needs) (λ c. search needs) (λ c κs. search needs) (λ c. search needs) (λ c κs. search needs) (λ c. search needs)
-    (λ c. search needs) (λ c. search needs) (λ c. search needs) (λ c. simp length-set (omega (arith, c .before .before .put-double-word .kept)))
+    (λ c. search needs) (λ c. search needs) (λ c. search needs)
+    (λ c. simp length-set (omega (arith, c .before .before .put-double-word .kept)))
     (λ c κs. search needs) returns)

@@ -14,10 +14,12 @@ use Rattle.card.proofs.tag.test.Tie as tie
 -- the comparison is that of the tags
 compared : (c : tie.After-equal) →
     let a = c .before .before .before .before .before .args in
-    same (tagUnder (now (a .schedule)) (now (a .subkeys)) (form (now (a .label)) (bytes 8 (a .parent)) (a .side))) (now (a .tag)) ≡ c .equal .result
+    same (tagUnder (now (a .schedule)) (now (a .subkeys)) (form (now (a .label)) (bytes 8 (a .parent)) (a .side))) (now (a .tag))
+    ≡ c .equal .result
 compared c =
     let a = c .before .before .before .before .before .args in
-    sym (c .equal .ensures ∙ ap₂ same (c .before .before .of .ensures) (c .before .block-at .ensures ∙ take-all 16 (now (a .tag)) (omega arith)))
+    sym (c .equal .ensures
+    ∙ ap₂ same (c .before .before .of .ensures) (c .before .block-at .ensures ∙ take-all 16 (now (a .tag)) (omega arith)))
 
 returns : tie.Need-returns
 returns c = ap passing (sym (compared (c .before) ∙ c .if1 .taken))

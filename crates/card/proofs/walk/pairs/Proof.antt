@@ -78,7 +78,8 @@ loop-again c =
       search needs,
       walk-more _ _ _ _ _ _ (node .before .before .loop .inv .1)
           (first-right _ _ _ _ (node .node .ensures) _ (test .node2 .ensures) (told .enum-told .given .1)
-          ∙ first-right _ _ _ _ (test2 .before .sibling .ensures ∙ ap sibling (node .node .ensures)) [] (test2 .node3 .ensures) (c .enum-told3 .given .1)
+          ∙ first-right _ _ _ _ (test2 .before .sibling .ensures ∙ ap sibling (node .node .ensures)) [] (test2 .node3 .ensures)
+          (c .enum-told3 .given .1)
           ∙ none-left _ _ _ _),
     )
 
@@ -93,7 +94,8 @@ returns-2 c =
     (sym (wrong-before _ _ _ _ _ _ _
     (walk-wrong _ _ _ _ _ _ _ _ (omega arith) (node .before .before .loop .inv .1)
     (first-right _ _ _ _ (node .node .ensures) _ (test .node2 .ensures) (told .enum-told .given .1)
-    ∙ first-wrong _ _ _ _ (test2 .before .sibling .ensures ∙ ap sibling (node .node .ensures)) [] (test2 .node3 .ensures) (c .enum-told4 .given .1)))))
+    ∙ first-wrong _ _ _ _ (test2 .before .sibling .ensures ∙ ap sibling (node .node .ensures)) [] (test2 .node3 .ensures)
+    (c .enum-told4 .given .1)))))
 
 -- The last level: its sibling decides
 

@@ -59,4 +59,5 @@ path-spec =
     tie.close
     (tie.spec
     Inv-loop μ-loop (λ c. (search needs, walk-start _ _ _ _ _)) (λ c. search needs) (λ c κs. search needs)
-    (λ c κs. (search needs, (search needs, on-path c))) (λ c. search needs) (λ c. search needs) loop-again (λ c. search needs) returns returns-2)
+    (λ c κs. (search needs, (search needs, on-path c))) (λ c. search needs) (λ c. search needs) loop-again
+    (λ c. search needs) returns returns-2)

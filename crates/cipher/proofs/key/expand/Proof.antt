@@ -36,7 +36,8 @@ loop-again c =
     let n = after .next .result in
     let e = after .next .ensures ∙ ap (λ (b : ℕ). nextRoundKey b (stateOf k)) (after .before .constant .ensures) in
     let filled = filled-more _ (turn .loop .schedule) k n (turn .loop .round) (taken .loop-test .taken) (turn .loop .inv .1) e in
-    let stored = put .put-block2 .ensures ∙ ap (sets (turn .loop .schedule) (16 * (turn .loop .round + 1))) (put .before .joined2 .ensures) in
+    let stored = put .put-block2 .ensures
+    ∙ ap (sets (turn .loop .schedule) (16 * (turn .loop .round + 1))) (put .before .joined2 .ensures) in
     (search needs, rw stored filled)
 
 returns : tie.Need-returns Inv-loop μ-loop

@@ -12,7 +12,8 @@ returns c =
     rw (← at0 .byte0 .ensures, ← at1 .byte1 .ensures, ← at2 .byte2 .ensures, ← at3 .byte3 .ensures)
     (mixed-word
     (at0 .byte0 .result) (at1 .byte1 .result) (at2 .byte2 .result) (at3 .byte3 .result)
-    (at3 .before .window .result) (at2 .before .window3 .result) (c .window4 .result) (at1 .before .window2 .result) (at0 .before .args .key)
+    (at3 .before .window .result) (at2 .before .window3 .result) (c .window4 .result) (at1 .before .window2 .result)
+    (at0 .before .args .key)
     (at3 .before .window .ensures) (at2 .before .window3 .ensures) (c .window4 .ensures) (at1 .before .window2 .ensures))
 
 pub mixed-spec : {M : Type 1} → statement M

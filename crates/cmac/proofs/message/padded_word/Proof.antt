@@ -12,14 +12,24 @@ returns : tie.Need-returns
 returns c =
     let a = c .before .before .args in
     let past = padded-past (now (a .message)) in
-    rw (past (a .start) (search needs), past (a .start + 1) (search needs), past (a .start + 2) (search needs), past (a .start + 3) (search needs))
+    rw (
+      past (a .start) (search needs),
+      past (a .start + 1) (search needs),
+      past (a .start + 2) (search needs),
+      past (a .start + 3) (search needs),
+    )
 
 returns-2 : tie.Need-returns-2
 returns-2 c =
     let a = c .before .before .before .before .args in
     let inside = padded-inside (now (a .message)) in
     c .word-at .ensures ∙ part-four (now (a .message)) (a .start) (omega arith)
-    ∙ sym (rw (inside (a .start) (omega arith), inside (a .start + 1) (omega arith), inside (a .start + 2) (omega arith), inside (a .start + 3) (omega arith)))
+    ∙ sym (rw (
+      inside (a .start) (omega arith),
+      inside (a .start + 1) (omega arith),
+      inside (a .start + 2) (omega arith),
+      inside (a .start + 3) (omega arith),
+    ))
 
 returns-3 : tie.Need-returns-3
 returns-3 c = c .word-of .ensures ∙ cc

@@ -19,8 +19,8 @@ returns c =
     let first = put .before .before .before .before in
     let k1 = first .before .before .doubled in
     let tag = first .before .before .before .tag-block in
-    let w = now (first .before .before .before .before .before .before .args .schedule) in
-    let e1 : blockOf (k1 .result) ≡ subkey1 (cipherOf w) = k1 .ensures ∙ ap double (tag .ensures ∙ tag-of-zeros w) in
+    let schedule = now (first .before .before .before .before .before .before .args .schedule) in
+    let e1 : blockOf (k1 .result) ≡ subkey1 (cipherOf schedule) = k1 .ensures ∙ ap double (tag .ensures ∙ tag-of-zeros schedule) in
     put .put-block2 .ensures
     ∙ ap (λ (l : List ℕ). sets l 16 (blockOf (k2 .result))) (first .put-block .ensures)
     ∙ ap₂ _++_ e1 (k2 .ensures ∙ ap double e1)

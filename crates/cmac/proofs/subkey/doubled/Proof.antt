@@ -13,9 +13,11 @@ returns c =
     let h = t .before in
     let b = h .before .args .block in
     doubling (b .head) (b .tail)
-    (h .reversed-double-word .result) (t .reversed-double-word2 .result) (high .shifted .result) (low .shifted2 .result) (carry .carry .result)
+    (h .reversed-double-word .result) (t .reversed-double-word2 .result) (high .shifted .result) (low .shifted2 .result)
+    (carry .carry .result)
     (x .reversed-double-word3 .result) (c .reversed-double-word4 .result) (search needs) (search needs)
-    (h .reversed-double-word .ensures) (t .reversed-double-word2 .ensures) (high .shifted .ensures) (low .shifted2 .ensures) (carry .carry .ensures)
+    (h .reversed-double-word .ensures) (t .reversed-double-word2 .ensures) (high .shifted .ensures) (low .shifted2 .ensures)
+    (carry .carry .ensures)
     (x .reversed-double-word3 .ensures) (c .reversed-double-word4 .ensures)
 
 pub doubled-spec : {M : Type 1} → statement M

@@ -14,5 +14,6 @@ pub write-spec : {M : Type 1} → statement M
 write-spec =
     tie.close
     (tie.spec
-    (λ c κs. search needs) (λ c κs. rw (c .before .before .before .before .before .write .ensures .answered) (node-small _ _ _ _)) (λ c. search needs) (λ c. search needs)
+    (λ c κs. search needs) (λ c κs. rw (c .before .before .before .before .before .write .ensures .answered) (node-small _ _ _ _))
+    (λ c. search needs) (λ c. search needs)
     returns)

@@ -15,7 +15,8 @@ returns c =
     let start = copy .before .before .before .before .before in
     let block = now (start .args .block) in
     chain .encrypt-chain .ensures
-    ∙ ap (encryptOf (now (start .args .key))) (copy .copy .ensures .1 ∙ copied block (now (start .args .out)) (start .pre .2 ∙ sym (start .pre .1)))
+    ∙ ap (encryptOf (now (start .args .key)))
+    (copy .copy .ensures .1 ∙ copied block (now (start .args .out)) (start .pre .2 ∙ sym (start .pre .1)))
 
 pub encrypt-spec : {M : Type 1} → statement M
 encrypt-spec =

@@ -1,6 +1,6 @@
 -- Each test that is passed leaves the rest of the limits to decide, and one that fails decides.
 use mathlib.Core.Path.{_≡_, sym, ap, _∙_}
-use mathlib.Core.Option.{Option, none, some}
+use mathlib.Core.Option.{Option, none}
 use Prim.Native.Nat.{ℕ, _≤_}
 use lib.ListN.{drop}
 use Rattle.tree.specs.Limits.{firstFailing}
@@ -14,7 +14,8 @@ use Rattle.tree.proofs.limits.first.Tie as tie
 
 -- the limits from the k-th on decide
 abbrev Left : tie.Start → ℕ → Type 0
-Left s k = firstFailing (firstLimits (s .args .anchor) (s .args .len)) ≡ firstFailing (drop k (firstLimits (s .args .anchor) (s .args .len)))
+Left s k =
+    firstFailing (firstLimits (s .args .anchor) (s .args .len)) ≡ firstFailing (drop k (firstLimits (s .args .anchor) (s .args .len)))
 
 -- the answer by what they decide
 abbrev answer : Option Refusal → Answer

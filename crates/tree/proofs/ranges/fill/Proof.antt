@@ -54,7 +54,8 @@ loop-again c =
     let u = node .result .0 in (
       search needs,
       p2 .put-node2 .ensures
-          ∙ ap (λ (l : List ℕ). sets l (16 * loop .level + 8) (encode (rangeOf (a .depth) u (2 * (u / 2) + 1) ∷ []))) (p1 .put-node .ensures)
+          ∙ ap (λ (l : List ℕ). sets l (16 * loop .level + 8) (encode (rangeOf (a .depth) u (2 * (u / 2) + 1) ∷ [])))
+          (p1 .put-node .ensures)
           ∙ ranges-more (a .depth) (a .index .0) (now (a .buffer)) (loop .buffer) (loop .level) u (loop .inv .1) (node .ensures),
     )
 

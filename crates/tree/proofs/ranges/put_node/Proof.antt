@@ -19,14 +19,16 @@ returns c =
     let p = c .before .before in
     let a = p .before .before .before .before .before .before .before .before .args in
     let r = range-own (a .depth) (a .own .0) (a .node .0) (p .before .before .if1 .taken) in
-    p .put-range .ensures ∙ ap (sets (now (a .buffer)) (a .place)) (encode-one _ _ _ (record { start-is = omega arith; count-is = omega arith }))
+    p .put-range .ensures
+    ∙ ap (sets (now (a .buffer)) (a .place)) (encode-one _ _ _ (record { start-is = omega arith; count-is = omega arith }))
 
 returns-2 : tie.Need-returns-2
 returns-2 c =
     let p = c .before .before in
     let a = p .before .before .before .before .before .before .before .before .args in
     let r = range-other (a .depth) (a .own .0) (a .node .0) (p .before .before .if1 .left) in
-    p .put-range2 .ensures ∙ ap (sets (now (a .buffer)) (a .place)) (encode-one _ _ _ (record { start-is = omega arith; count-is = omega arith }))
+    p .put-range2 .ensures
+    ∙ ap (sets (now (a .buffer)) (a .place)) (encode-one _ _ _ (record { start-is = omega arith; count-is = omega arith }))
 
 pub put-node-spec : {M : Type 1} → statement M
 put-node-spec =
