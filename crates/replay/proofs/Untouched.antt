@@ -5,9 +5,9 @@ use Prim.Native.Nat.{ℕ}
 use lib.ListN.{length}
 use Rattle.tree.specs.Calls.{Call, write}
 use Rattle.tree.specs.declared.Anchor.{Anchor}
-use Rattle.tree.proofs.WriteLaws.{Clean, clean-written}
+use Rattle.tree.proofs.WriteLaws.{Clean}
 use Rattle.tree.proofs.LimitLaws.{Passes}
-use Rattle.tree.proofs.CallLaws.{accepted, clean-accepts, clean-answers, outcome-answer}
+use Rattle.tree.proofs.CallLaws.{accepted, clean-accepts, clean-answers, clean-done, outcome-answer}
 use Rattle.replay.specs.Places.{Place}
 use Rattle.replay.specs.Run.{Step, State, next, after}
 use Rattle.replay.specs.Claim
@@ -30,11 +30,9 @@ module _ (F : List ℕ → List ℕ) (F16 : (m : List ℕ) → length (F m) ≡ 
       go card c untouched (wrote-block i block ranges e q) =
           let a = s .store .anchor in
           let ok = accepted F a card (write i block ranges) e .limits-passed in
-          let n = a .depth in
-          let t = a .root .0 in
           let same = untouched (outcome-answer F a card (write i block ranges) ∙ e) refl in
           subst CleanState (sym q)
-          (clean-written F F16 n (ok .sound .deep) t t card i block (ok .inside) (ok .long) (subst (Clean F n t) (sym same) k))
+          (clean-done F F16 a card (write i block ranges) ok (subst (Clean F (a .depth) (a .root .0)) (sym same) k))
 
   -- what every call on an untouched card can count on
   clean-place : (s : State) → CleanState s → {xs : List Step} (p : Place xs) → Faithful F s (p .before)

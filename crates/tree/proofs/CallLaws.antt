@@ -122,12 +122,15 @@ module _ (F : List ℕ → List ℕ) (a : Anchor) (card : List ℕ) (c : Call) w
       let v = verdict-wrong _ _ u e in
       v .1 (wrong-none F (a .depth) (a .root .0) card (checks (a .depth) c) (f (passed a card c (v .0))))
 
--- on a card where every tag is right a call is accepted within its limits
+-- On a card where every tag is right a call is accepted within its limits, and names no wrong tag in any case;
 module _ (F : List ℕ → List ℕ) (a : Anchor) (card : List ℕ) (clean : Clean F (a .depth) (a .root .0) card) (c : Call) where
   pub clean-accepts : Passes a card c → answerOf F a card c ≡ Whole
   clean-accepts p = accept F a card c (record { limits-passed = p; tags-right = λ u m. clean .right u (checks-nodes a card c p u m) })
 
--- and leaves such a card, under the anchor that it leaves
+  pub clean-answers : (u : Node) → answerOf F a card c ≡ Wrong u → ⊥
+  clean-answers = never-wrong F a card c (λ p u m. clean .right u (checks-nodes a card c p u m))
+
+-- accepted, it leaves such a card, under the anchor that it leaves
 module _ (F : List ℕ → List ℕ) (F16 : (m : List ℕ) → length (F m) ≡ 16) (a : Anchor) (card : List ℕ) where
   pub clean-done : (c : Call) → Passes a card c → Clean F (a .depth) (a .root .0) card →
       let o = done F a card c in
