@@ -9,7 +9,7 @@ help:
 	@echo 'make check     every test, then the gate: every proof, must-fail edit and program'
 	@echo 'make test      the tests in Rust alone'
 	@echo 'make host-test the tests of the C side alone: header, calls, tool, installation'
-	@echo 'make install   the library, its header and the tool into PREFIX, under DESTDIR if given'
+	@echo 'make install   the library, its header and the tool into PREFIX, under DESTDIR if given; make uninstall removes them'
 	@echo 'make bench     the speed of the proved code against other implementations, and docs/calls.svg'
 	@echo 'make vectors   prove cipher and CMAC, and print the published vectors as the proved code computes them'
 	@echo 'make clean     remove what was built'
