@@ -4,28 +4,31 @@ use mathlib.Core.Bool.{Bool, true, false, cond, _&&_}
 use mathlib.Core.List.{List, [], _∷_, _++_}
 use mathlib.Core.Logic.{inl, inr, ⊎-elim}
 use Prim.Native.Nat.{ℕ, _+_, _*_, _<_}
+use native.Mathlib.Nat.{add-mul}
 use native.Mathlib.Omega.{arith}
 use borrow.Author.Tests.{eq-eqb, ne-eqb}
 use lib.Dec.{eqb}
 use Rattle.cmac.specs.Cmac.{cmacOf}
 use Rattle.tree.specs.Answer.{refusalNumber, isWhole}
-use Rattle.tree.specs.Calls.{Call, read, write, check, isWrite, format}
+use Rattle.tree.specs.Calls.{isWrite, format}
+use Rattle.tree.specs.declared.Anchor.{Anchor}
 use Rattle.tree.specs.declared.Node.{Node}
 use Rattle.tree.specs.declared.Refusal.{Refusal}
 use Rattle.tree.specs.declared.Refusal.the-variants.{Depth, RootNonce, CardLength, BlockNumber, BlockLength, RangeLength, NoncesSpent}
 use Rattle.tree.specs.declared.Answer.{Answer}
 use Rattle.tree.specs.declared.Answer.the-variants.{Whole, Wrong, Refused}
-use Rattle.replay.specs.Array.{Array, zeroed, moved}
+use Rattle.replay.specs.Array.{Told, read, write, check, Array, zeroed, moved}
 use Rattle.replay.specs.Places.{Place}
 use Rattle.replay.specs.Run
-use Rattle.replay.specs.Run.{Step, Store, State, start, result, next, after}
+use Rattle.replay.specs.Run.{Step, Store, State, start, result, next, after, writes}
 use Rattle.replay.specs.Claim.{Agrees, Accepted, Agreement, Forgery}
-use Rattle.replay.proofs.PlaceLaws.{first, later, earlier, mapped, image}
-use Rattle.replay.proofs.Moves.{after-key}
+use Rattle.replay.proofs.PlaceLaws.{first, later, earlier, no-place, at-more, mapped, image}
+use Rattle.replay.proofs.Moves.{after-key, next-root, after-root}
 use Rattle.pat.specs.Host.{anchorOf, codeOf, Codes}
 use Rattle.pat.proofs.AnchorLaws.{code-whole, whole-code}
 use Rattle.host_replay.specs.Called.{Held, bytes, anchorIn, Called, steps, History, Formatted, begin, Demand3Of}
-use Rattle.host_replay.specs.Plain.{whole, leftBy, arrayBy, Shows, Each, Agreed, AllUntouched, WritesUntouched, PlainDemand}
+use Rattle.host_replay.specs.Plain.{whole, leftBy, arrayBy, counted, writesBy, Shows, Each, Agreed, AllUntouched, WritesUntouched}
+use Rattle.host_replay.specs.Plain.{PlainDemand, PlainGoesOn}
 use Rattle.host_replay.proofs.Theorem.{Tells, demand3-of-calls}
 
 -- Answers as one number
@@ -94,10 +97,18 @@ module _ (key : List ℕ) where
   array-by (r ∷ rs) s f =
       array-by rs (next F s (r .step)) (rest s r rs f) ∙ ap (λ (a : Array). arrayBy a rs) (next-array s r (f (first r rs)))
 
+  writes-by : (rs : List Called) (s : State) → Each rs (Tells key s) → writes (cmacOf key) s (steps rs) ≡ writesBy rs
+  unfolding writes after
+  writes-by [] s f = refl
+  writes-by (r ∷ rs) s f =
+      ap₂ (λ (b : Bool) (m : ℕ). cond (b && isWrite (r .step .call)) 1 0 + m)
+      (sym (code-is (result F (s .store) (r .step) .answer) (r .code) (f (first r rs) .coded)))
+      (writes-by rs (next F s (r .step)) (rest s r rs f))
+
 -- two definitions of one meaning
-agrees-shows : (n : ℕ) (array : Array) (card given : List ℕ) (c : Call) → Agrees n array card given c → Shows n array card given c
-agrees-shows n array card given (read i buffer) a = a
-agrees-shows n array card given (write i block ranges) a = tt
+agrees-shows : (n : ℕ) (array : Array) (card given : List ℕ) (c : Told) → Agrees n array card given c → Shows n array card given c
+agrees-shows n array card given (read i) a = a
+agrees-shows n array card given (write i block) a = tt
 agrees-shows n array card given check a = a
 
 module _ (anchor card made left : List ℕ) (formatted : Formatted anchor card 0 made left) (rs : List Called)
@@ -142,11 +153,41 @@ module _ (anchor card made left : List ℕ) (formatted : Formatted anchor card 0
       let z = store p in
       let o = result (cmacOf k) z (r .step) in
       let shows =
-      agrees-shows (z .anchor .depth) (z .array) (r .step .card) (o .lent) (r .step .call)
+      agrees-shows (z .anchor .depth) (z .array) (r .step .card) (o .lent) (Run.told (r .step .call))
       (a (mapped (λ (q : Called). q .step) p) (code-whole (o .answer) (sym (t .coded) ∙ zero))) in
-      subst (λ (l : List ℕ). Shows n (arrayBy (zeroed n) (p .before)) (r .step .card) l (r .step .call)) (sym (t .filled))
-      (subst (λ (b : Array). Shows n b (r .step .card) (o .lent) (r .step .call)) (array-is p)
-      (subst (λ (m : ℕ). Shows m (z .array) (r .step .card) (o .lent) (r .step .call)) (depth-is (steps (p .before))) shows))
+      subst (λ (l : List ℕ). Shows n (arrayBy (zeroed n) (p .before)) (r .step .card) l (Run.told (r .step .call))) (sym (t .filled))
+      (subst (λ (b : Array). Shows n b (r .step .card) (o .lent) (Run.told (r .step .call))) (array-is p)
+      (subst (λ (m : ℕ). Shows m (z .array) (r .step .card) (o .lent) (Run.told (r .step .call))) (depth-is (steps (p .before))) shows))
+
+  start-root : begin anchor card .store .anchor .root .0 ≡ 0
+  unfolding start format
+  start-root = refl
+
+  start-depth : begin anchor card .store .anchor .depth ≡ anchorOf anchor .depth
+  unfolding start format
+  start-depth = refl
+
+  root : (p : Place rs) → anchorIn (p .item .anchor) .root .0 ≡ (writesBy (p .before) + counted (p .item)) * anchorOf anchor .depth
+  unfolding next
+  root p =
+      let r = p .item in
+      let z = after (cmacOf k) s₀ (steps (p .before)) in
+      let t = demand .told p in
+      let w = after-root (cmacOf k) (steps (p .before)) s₀ in
+      let c = code-is (result (cmacOf k) (z .store) (r .step) .answer) (r .code) (t .coded) in
+      ap (λ (a : Anchor). a .root .0) (t .anchored)
+      ∙ next-root (cmacOf k) z (r .step)
+      ∙ sum (z .store .anchor .root .0) _ (counted r) (writesBy (p .before)) (z .store .anchor .depth)
+      (w ∙ ap₂ (λ (m d : ℕ). m + writes (cmacOf k) s₀ (steps (p .before)) * d) start-root start-depth
+      ∙ ap (λ (m : ℕ). 0 + m * n) (writes-by k (p .before) s₀ (tells p)) ∙ from-zero (writesBy (p .before) * n))
+      (ap (λ (b : Bool). cond (b && isWrite (r .step .call)) 1 0) (sym c))
+      (depth-is (steps (p .before)))
+    where
+      from-zero : (m : ℕ) → 0 + m ≡ m
+      from-zero m = omega arith
+
+      sum : (t m c w d : ℕ) → t ≡ w * anchorOf anchor .depth → m ≡ c → d ≡ anchorOf anchor .depth → t + m * d ≡ (w + c) * anchorOf anchor .depth
+      sum t m c w d p q e = rw (p, q, e) (sym (add-mul w c (anchorOf anchor .depth)))
 
   -- an accepted place of the list is a call that answered 0
   untouched : (P : Called → Type 0) → Each rs (λ before r. r .code ≡ 0 → P r → r .step .card ≡ leftBy left before)
@@ -196,4 +237,15 @@ module _ (anchor card made left : List ℕ) (formatted : Formatted anchor card 0
             (demand3-of-calls anchor card made left formatted rs ran .demand .safe);
         honest = honest anchor card made left formatted rs ran;
         quiet = quiet;
+        root = root anchor card made left formatted rs ran;
       }
+
+pub plain-goes-on : (left : List ℕ) → PlainGoesOn left
+plain-goes-on left =
+    record {
+      all-none = λ p. absurd (no-place p);
+      all-more = λ rs r f h. at-more (λ before q. q .code ≡ 0 → q .step .card ≡ leftBy left before) rs r f h;
+      writes-none = λ p. absurd (no-place p);
+      writes-more = λ rs r f h.
+          at-more (λ before q. q .code ≡ 0 → isWrite (q .step .call) ≡ true → q .step .card ≡ leftBy left before) rs r f h;
+    }

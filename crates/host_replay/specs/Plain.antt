@@ -2,18 +2,18 @@
 use Prim.Native.Nat.{ℕ, _+_, _*_, _^_, _<_}
 use mathlib.Core.Path.{_≡_}
 use mathlib.Core.Bool.{Bool, true, cond, _&&_}
-use mathlib.Core.List.{List, [], _∷_}
+use mathlib.Core.List.{List, [], _∷_, _++_}
 use mathlib.Core.Logic.{_⊎_}
 use lib.Dec.{eqb}
 use Rattle.cmac.specs.Cmac.{cmacOf}
 use Rattle.tree.specs.Layout.{label}
-use Rattle.tree.specs.Calls.{Call, read, write, check, isWrite}
-use Rattle.replay.specs.Array.{Array, zeroed, blockAt, moved}
+use Rattle.tree.specs.Calls.{isWrite}
+use Rattle.replay.specs.Array.{Told, read, write, check, Array, zeroed, blockAt, moved}
 use Rattle.replay.specs.Places.{Place}
 use Rattle.replay.specs.Run.{told}
 use Rattle.replay.specs.Claim.{Forgery}
 use Rattle.pat.specs.Host.{anchorOf}
-use Rattle.host_replay.specs.Called.{Called, steps, begin}
+use Rattle.host_replay.specs.Called.{anchorIn, Called, steps, begin}
 
 -- the call answered 0
 abbrev pub whole : Called → Bool
@@ -29,10 +29,18 @@ abbrev pub arrayBy : Array → List Called → Array
 arrayBy a [] = a
 arrayBy a (r ∷ rs) = arrayBy (moved a (told (r .step .call)) (whole r)) rs
 
--- what a call on a card of depth n gave is what the array holds
-abbrev pub Shows : ℕ → Array → List ℕ → List ℕ → Call → Type 0
-Shows n a card given (read i buffer) = given ≡ blockAt a i
-Shows n a card given (write i block ranges) = Unit {0}
+-- 1 for a write that answered 0, and how many there are
+abbrev pub counted : Called → ℕ
+counted r = cond (whole r && isWrite (r .step .call)) 1 0
+
+abbrev pub writesBy : List Called → ℕ
+writesBy [] = 0
+writesBy (r ∷ rs) = counted r + writesBy rs
+
+-- what a call on a card of depth n gave is what the array, told of it, holds
+abbrev pub Shows : ℕ → Array → List ℕ → List ℕ → Told → Type 0
+Shows n a card given (read i) = given ≡ blockAt a i
+Shows n a card given (write i block) = Unit {0}
 Shows n a card given check = (i : ℕ) → i < 2 ^ n → label n card (2 ^ n + i) ≡ blockAt a i
 
 -- of each call and those before it
@@ -41,7 +49,7 @@ Each rs P = (p : Place rs) → P (p .before) (p .item)
 
 -- every call that answered 0 agrees with the array
 abbrev pub Agreed : ℕ → List Called → Type 0
-Agreed n rs = Each rs (λ before r. r .code ≡ 0 → Shows n (arrayBy (zeroed n) before) (r .step .card) (r .lent) (r .step .call))
+Agreed n rs = Each rs (λ before r. r .code ≡ 0 → Shows n (arrayBy (zeroed n) before) (r .step .card) (r .lent) (told (r .step .call)))
 
 -- every call that answered 0, or every such write, was given the card as it was last left
 abbrev pub AllUntouched : List ℕ → List Called → Type 0
@@ -58,3 +66,15 @@ pub record PlainDemand (anchor card left : List ℕ) (rs : List Called) : Type 0
   -- no tag is wrong on a card as last left: no answer is 8 plus 256 times a node
   pub quiet : Each rs (λ before r.
       WritesUntouched left before → r .step .card ≡ leftBy left before → (u : ℕ) → r .code ≡ 8 + 256 * u → ⊥)
+  -- the root nonce that a call leaves is the depth times the writes that answered 0
+  pub root : Each rs (λ before r. anchorIn (r .anchor) .root .0 ≡ (writesBy before + counted r) * anchorOf anchor .depth)
+
+-- Lists of calls on untouched cards are as many as the paper allows: one may go on with any call on the card as last left, and with any
+-- refused call on any card.
+pub record PlainGoesOn (left : List ℕ) : Type 0 where
+  pub all-none : AllUntouched left []
+  pub all-more : (rs : List Called) (r : Called) → AllUntouched left rs → (r .code ≡ 0 → r .step .card ≡ leftBy left rs)
+      → AllUntouched left (rs ++ (r ∷ []))
+  pub writes-none : WritesUntouched left []
+  pub writes-more : (rs : List Called) (r : Called) → WritesUntouched left rs
+      → (r .code ≡ 0 → isWrite (r .step .call) ≡ true → r .step .card ≡ leftBy left rs) → WritesUntouched left (rs ++ (r ∷ []))

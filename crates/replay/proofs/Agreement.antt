@@ -14,7 +14,7 @@ use Rattle.tree.specs.declared.Answer.{Answer}
 use Rattle.tree.specs.declared.Answer.the-variants.{Whole, Wrong, Refused}
 use Rattle.tree.proofs.LimitLaws.{Passes}
 use Rattle.tree.proofs.CallLaws.{read-checks, write-checks, check-checks, accepted, outcome-answer, outcome-done}
-use Rattle.replay.specs.Run.{Step, State, next, after}
+use Rattle.replay.specs.Run.{Step, told, State, next, after}
 use Rattle.replay.specs.Claim.{Agrees, seen, ChecksTagged, Accepted, AgreesHere, Forged, Agreement, Forgery}
 use Rattle.replay.proofs.PlaceLaws.{first, later, no-place}
 use Rattle.replay.proofs.Along.{everywhere}
@@ -90,7 +90,7 @@ module _ (F : List ℕ → List ℕ) (F16 : (m : List ℕ) → length (F m) ≡ 
 
   module _ (s : State) (safe : Safe s) (card : List ℕ) where
     shows : (c : Call) → Passes (s .store .anchor) card c → ChecksTagged s (record { card = card; call = c })
-        → Agrees (s .store .anchor .depth) (s .store .array) card (done F (s .store .anchor) card c .lent) c
+        → Agrees (s .store .anchor .depth) (s .store .array) card (done F (s .store .anchor) card c .lent) (told c)
     shows (read i buffer) p all =
         let n = s .store .anchor .depth in
         read-same safe card (p .sound .full) i (p .inside) (λ y h l. all (pathNode n i y) (read-checks n i buffer (p .inside) y h l))
@@ -114,7 +114,7 @@ module _ (F : List ℕ → List ℕ) (F16 : (m : List ℕ) → length (F m) ≡ 
   agrees-tagged s safe x all w =
       let a = s .store .anchor in
       let e = sym (outcome-answer F a (x .card) (x .call)) ∙ w in
-      subst (λ (o : Outcome). Agrees (a .depth) (s .store .array) (x .card) (o .lent) (x .call))
+      subst (λ (o : Outcome). Agrees (a .depth) (s .store .array) (x .card) (o .lent) (told (x .call)))
       (sym (outcome-done F a (x .card) (x .call) e))
       (shows s safe (x .card) (x .call) (accepted F a (x .card) (x .call) e .limits-passed) (all w))
 

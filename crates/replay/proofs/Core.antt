@@ -93,25 +93,6 @@ module _ (T : Frame) where
       → m ≡ T .form x (be8 s) (v % 2) → s < H
   says-below {H = H} k top v x s small e = let q = same-nonce k top x s (v % 2) small e in omega (arith, k .fresh .high)
 
-  -- An attempt set aside: labels whose nonces are below G do not see messages of nonces from G on.
-  pub aside : {G H : ℕ} {I J : Labels} {m : List ℕ} → AllNonced G I → H ≤ 256 ^ 8 → Says G H J m → Vouches H I m
-  aside nonced top k =
-      record {
-        fits = λ v x node sized e. absurd (other-nonce k top v x (nonced v node) e);
-        below = λ v x s node sized small e. says-below k top v x s small e;
-      }
-
-  -- A foreign message, which is no node's, says nothing.
-  pub foreign : {H : ℕ} {I : Labels} {m : List ℕ} → AllNonced H I
-      → ((v : ℕ) (x : List ℕ) (s : ℕ) → T .Node v → length x ≡ T .size v → m ≡ T .form x (be8 s) (v % 2) → ⊥) → Vouches H I m
-  foreign nonced not =
-      record {
-        fits = λ v x node sized e.
-            let o = nonced v node in
-            absurd (not v x (o .nonce) node sized (e ∙ ap (λ (p : List ℕ). T .form x p (v % 2)) (o .is)));
-        below = λ v x s node sized small e. absurd (not v x s node sized e);
-      }
-
   -- v and its parent keep their labels
   pub record Keeps (H : ℕ) (I J : Labels) (v : ℕ) : Type 0 where
     pub own : J v ≡ I v

@@ -126,10 +126,10 @@ module _ (F : List ℕ → List ℕ) where
   settled-root a card c (Refused r) = omega arith
 
   -- 1 for an accepted write
-  abbrev counted : Store → Step → ℕ
+  abbrev pub counted : Store → Step → ℕ
   counted s x = cond (isWhole (result F s x .answer) && isWrite (x .call)) 1 0
 
-  next-root : (s : State) (x : Step)
+  pub next-root : (s : State) (x : Step)
       → next F s x .store .anchor .root .0 ≡ s .store .anchor .root .0 + counted (s .store) x * s .store .anchor .depth
   unfolding next outcome
   next-root s x = settled-root (s .store .anchor) (x .card) (x .call) (answerOf F (s .store .anchor) (x .card) (x .call))

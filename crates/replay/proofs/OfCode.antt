@@ -1,11 +1,11 @@
 -- Demand 3 of the code: every call that ran is a step of the list that the theorem speaks of, by the contracts alone.
-use mathlib.Core.Path.{_≡_, refl, sym, subst, _∙_}
+use mathlib.Core.Path.{_≡_, refl, sym, ap, subst, _∙_}
 use mathlib.Core.List.{List, [], _∷_}
 use Prim.Native.Nat.{ℕ}
 use denote.Ref.{now}
 use Rattle.cmac.specs.Cmac.{cmacOf}
 use Rattle.tree.specs.Layout.{IsCard}
-use Rattle.tree.specs.Calls.{read, write, check, Gives, format}
+use Rattle.tree.specs.Calls.{read, write, check, Gives, outcome, format}
 use Rattle.tree.specs.declared.Anchor.{Anchor}
 use Rattle.tree.specs.declared.Answer.the-variants.{Whole}
 use Rattle.tree.proofs.CallLaws.{outcome-key, format-in}
@@ -14,8 +14,8 @@ use Rattle.calls.proofs.read.Reads as read-code
 use Rattle.calls.proofs.write.Reads as write-code
 use Rattle.calls.proofs.check.Reads as check-code
 use Rattle.replay.specs.Places.{Place}
-use Rattle.replay.specs.Run.{State, start, result, next, after}
-use Rattle.replay.specs.Ran.{Ran, steps, Meets, Formatted, History, Demand3Of}
+use Rattle.replay.specs.Run.{Step, State, start, result, next, after}
+use Rattle.replay.specs.Ran.{Ran, steps, Meets, Formatted, History, Runs, Demand3Of}
 use Rattle.replay.proofs.PlaceLaws.{no-place, at-places}
 use Rattle.replay.proofs.Theorem.{demand3, unforged}
 
@@ -57,6 +57,19 @@ pub check-ran : (κs : _) (x : _) (r : _) (e : _) → check-code.Learnt κs x r 
       lent = [];
     })
 check-ran κs x r e learnt = learnt
+
+-- Every list of cards and calls runs from every anchor.
+pub runs : (a : Anchor) (xs : List Step) → Runs a xs
+runs a [] = record { calls = []; ran = tt; are = refl }
+runs a (x ∷ xs) =
+    let o = outcome (cmacOf (a .key)) a (x .card) (x .call) in
+    let r : Ran = record { step = x; answer = o .answer; anchor = o .anchor; card = o .card; lent = o .lent } in
+    let k = runs (o .anchor) xs in
+    record {
+      calls = r ∷ k .calls;
+      ran = (record { answered = refl; anchored = refl; left = refl; filled = refl }, k .ran);
+      are = ap (λ (l : List Step). x ∷ l) (k .are);
+    }
 
 -- Each call of a history is a step: what it answered and left is the outcome that the list has at its place.
 module _ (key : List ℕ) where

@@ -51,6 +51,13 @@ module _ {A : Type 0} where
           tail : x ∷ xs ≡ z ∷ (before ++ (y ∷ behind)) → xs ≡ before ++ (y ∷ behind)
           tail e = cc
 
+  -- and so with one more at the end
+  pub at-more : (P : List A → A → Type 0) (xs : List A) (x : A) → ((p : Place xs) → P (p .before) (p .item)) → P xs x
+      → (p : Place (xs ++ (x ∷ []))) → P (p .before) (p .item)
+  at-more P [] x f here = at-places P x [] here (λ p. absurd (no-place p))
+  at-more P (y ∷ ys) x f here =
+      at-places P y (ys ++ (x ∷ [])) (f (first y ys)) (at-more (λ before z. P (y ∷ before) z) ys x (λ p. f (later y p)) here)
+
 -- Places of a list under a function
 module _ {A B : Type 0} (f : A → B) where
   abbrev pub mapped : {xs : List A} → Place xs → Place (map f xs)

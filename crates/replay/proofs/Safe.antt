@@ -144,10 +144,6 @@ module _ (F : List ℕ → List ℕ) (F16 : (m : List ℕ) → length (F m) ≡ 
             (new-same n r i b inside L J (w / 2) (λ f. absurd (f (c .level) (omega (arith, c .high)) (c .is))));
       }
 
-  -- Whatever the card, each message of a write has a parent with a fresh nonce.
-  pub write-says : (m : List ℕ) → List·Memᴰ m new → Says (frame n) (suc r) (suc (r + n)) (newLabels n r i b (labels n t card)) m
-  write-says = says-under (labels n t card) (λ w m f. refl)
-
   pub write-backs : {M : List (List ℕ)} {array : Array} → Backs n (suc r) M t array → r + n < 2 ^ 64
       → ((w : ℕ) → List·Memᴰ w (pairs n i) → (w ≡ 2 ^ n + i → ⊥) → List·Memᴰ (message (labels n t card) w) M)
       → Backs n (suc (r + n)) (new ++ M) (r + n) (set array i b)

@@ -19,8 +19,8 @@ use Rattle.replay.specs.Places.{Place}
 use Rattle.replay.specs.Run.{Step, Store, State, newTags, result, next, after}
 use Rattle.replay.specs.Claim
 use Rattle.replay.specs.Claim.{Untouched, ChecksTagged, AgreesHere, WroteUntouched, known, Agreement, Forgery, Faithful}
-use Rattle.replay.specs.Tagged.{CallTags, Honest, ByCall}
-use Rattle.replay.proofs.PlaceLaws.{first, later}
+use Rattle.replay.specs.Tagged.{CallTags, Honest, ByCall, GoesOn}
+use Rattle.replay.proofs.PlaceLaws.{first, later, no-place, at-more}
 use Rattle.replay.proofs.Along.{after-append, everywhere-before, kept-along}
 use Rattle.replay.proofs.Moves.{Move, still, wrote-block, move, write-moves}
 use Rattle.replay.proofs.Agreement.{Safe, agrees-tagged, safe-next, agreement}
@@ -227,3 +227,14 @@ module _ (F : List ℕ → List ℕ) (F16 : (m : List ℕ) → length (F m) ≡ 
   pub honest-agrees : (xs : List Step) (s : State) → LeftTagged s → Safe F F16 s → Honest F s xs → Agreement F s xs
   honest-agrees xs s k safe honest =
       ⊎-elim (λ (a : Agreement F s xs). a) (λ (f : Forgery F s xs). absurd (none-forged xs s k honest f)) (agreement F F16 xs s safe)
+
+-- Lists on untouched cards
+pub goes-on : (F : List ℕ → List ℕ) (s : State) → GoesOn F s
+goes-on F s =
+    record {
+      honest-none = λ p. absurd (no-place p);
+      honest-more = λ xs x f h.
+          at-more (λ before y. Claim.Accepted F (after F s before .store) y → Untouched (after F s before .store) y) xs x f h;
+      faithful-none = λ p. absurd (no-place p);
+      faithful-more = λ xs x f h. at-more (λ before y. WroteUntouched F (after F s before) y) xs x f h;
+    }

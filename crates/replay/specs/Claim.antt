@@ -6,17 +6,18 @@ use mathlib.Core.List.{List, List·Memᴰ}
 use mathlib.Core.Logic.{_⊎_}
 use Rattle.tree.specs.Layout.{label, tag}
 use Rattle.tree.specs.Labels.{message, labels}
-use Rattle.tree.specs.Calls.{Call, read, write, check, checks, isWrite}
+use Rattle.tree.specs.Calls.{checks, isWrite}
 use Rattle.tree.specs.declared.Node.{Node}
 use Rattle.tree.specs.declared.Answer.the-variants.{Whole, Wrong}
-use Rattle.replay.specs.Array.{Array, blockAt}
+use Rattle.replay.specs.Array.{Told, read, write, check, Array, blockAt}
 use Rattle.replay.specs.Places.{Place}
-use Rattle.replay.specs.Run.{Step, Store, State, result, after}
+use Rattle.replay.specs.Run.{Step, told, Store, State, result, after}
 
--- What a call on a card of depth n showed is what the array holds: the bytes that a read gave, and every block on the card of a check.
-abbrev pub Agrees : ℕ → Array → List ℕ → List ℕ → Call → Type 0
-Agrees n array card given (read i buffer) = given ≡ blockAt array i
-Agrees n array card given (write i block ranges) = Unit {0}
+-- What a call on a card of depth n showed is what the array, told of the call, holds: the bytes that a read gave, and every block on the
+-- card of a check.
+abbrev pub Agrees : ℕ → Array → List ℕ → List ℕ → Told → Type 0
+Agrees n array card given (read i) = given ≡ blockAt array i
+Agrees n array card given (write i block) = Unit {0}
 Agrees n array card given check = (i : ℕ) → i < 2 ^ n → label n card (2 ^ n + i) ≡ blockAt array i
 
 -- the call is given the card as last left
@@ -38,7 +39,7 @@ module _ (F : List ℕ → List ℕ) where
   -- if it is accepted, it agrees with the array
   abbrev pub AgreesHere : State → Step → Type 0
   AgreesHere s x =
-      Accepted (s .store) x → Agrees (s .store .anchor .depth) (s .store .array) (x .card) (result F (s .store) x .lent) (x .call)
+      Accepted (s .store) x → Agrees (s .store .anchor .depth) (s .store .array) (x .card) (result F (s .store) x .lent) (told (x .call))
 
   -- it was accepted and checked a message that nothing before it tagged
   pub record Forged (s : State) (x : Step) : Type 0 where

@@ -36,6 +36,12 @@ abbrev pub History : Anchor → List Ran → Type 0
 History a [] = Unit {0}
 History a (r ∷ rs) = Meets a r × History (r .anchor) rs
 
+-- a history of the calls xs from the anchor a: there is one for every anchor and every list
+pub record Runs (a : Anchor) (xs : List Step) : Type 0 where
+  pub calls : List Ran
+  pub ran : History a calls
+  pub are : steps calls ≡ xs
+
 -- Of the calls that ran after a format: demand 3 holds of their list, what is tagged is as stated, and each call answered and left what
 -- the list has at its place.
 pub record Demand3Of (key : List ℕ) (n : ℕ) (card : List ℕ) (rs : List Ran) : Type 0 where

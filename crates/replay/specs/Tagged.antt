@@ -1,15 +1,17 @@
 -- What is tagged, both ways, so that a forgery is no empty word: a card that nobody touched shows tagged messages alone.
 use Prim.Native.Nat.{ℕ, _/_, _<_}
 use mathlib.Core.Path.{_≡_}
-use mathlib.Core.List.{List, List·Memᴰ}
+use mathlib.Core.Bool.{true}
+use mathlib.Core.List.{List, [], _∷_, _++_, List·Memᴰ}
 use mathlib.Core.Logic.{_⊎_}
 use Rattle.tree.specs.Layout.{IsNode}
 use Rattle.tree.specs.Nodes.{pathNode}
 use Rattle.tree.specs.Labels.{message, labels, blankLabels, newLabels}
-use Rattle.tree.specs.Calls.{Call, read, write, check}
+use Rattle.tree.specs.Calls.{Call, read, write, check, isWrite}
 use Rattle.tree.specs.declared.Anchor.{Anchor}
+use Rattle.tree.specs.declared.Answer.the-variants.{Whole}
 use Rattle.replay.specs.Places.{Place}
-use Rattle.replay.specs.Run.{Step, State, after}
+use Rattle.replay.specs.Run.{Step, State, result, after}
 use Rattle.replay.specs.Claim.{Untouched, ChecksTagged, Accepted, AgreesHere, known, Everywhere, Agreement, Forgery, Faithful}
 
 -- m is the message of a node of the blank card of depth n
@@ -57,3 +59,13 @@ module _ (F : List ℕ → List ℕ) (s₀ : State) where
     -- where every accepted call had an untouched card there is no forgery, and the agreement holds outright
     pub unforged : Honest xs → Forgery F s₀ xs → ⊥
     pub agreed : Honest xs → Agreement F s₀ xs
+
+-- Such lists are as many as the paper allows: one may go on with any call on the card as last left, and with any refused call on any card.
+pub record GoesOn (F : List ℕ → List ℕ) (s₀ : State) : Type 0 where
+  pub honest-none : Honest F s₀ []
+  pub honest-more : (xs : List Step) (x : Step) → Honest F s₀ xs
+      → (result F (after F s₀ xs .store) x .answer ≡ Whole → x .card ≡ after F s₀ xs .store .left) → Honest F s₀ (xs ++ (x ∷ []))
+  pub faithful-none : Faithful F s₀ []
+  pub faithful-more : (xs : List Step) (x : Step) → Faithful F s₀ xs
+      → (result F (after F s₀ xs .store) x .answer ≡ Whole → isWrite (x .call) ≡ true → x .card ≡ after F s₀ xs .store .left)
+      → Faithful F s₀ (xs ++ (x ∷ []))
