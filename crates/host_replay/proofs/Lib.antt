@@ -1,3 +1,4 @@
 pub mod OfCode
+pub mod Runs
 pub mod Theorem
 pub mod PlainLaws

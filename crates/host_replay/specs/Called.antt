@@ -61,6 +61,27 @@ abbrev pub History : Held → List Called → Type 0
 History h [] = Unit {0}
 History h (r ∷ rs) = Handed h (r .given) × Meets r × History (r .anchor) rs
 
+-- a call, and the form in which it is given its anchor
+pub data Form : Type 0 where
+  by-bytes in-place : Form
+
+pub record Turn : Type 0 where
+  pub form : Form
+  pub step : Step
+
+abbrev pub formOf : Held → Form
+formOf (bytes s) = by-bytes
+formOf (struct a) = in-place
+
+abbrev pub turns : List Called → List Turn
+turns rs = map (λ (r : Called). record { form = formOf (r .given); step = r .step }) rs
+
+-- a history of such calls from the anchor h: there is one for every list, from all bytes of an anchor's length
+pub record Runs (h : Held) (ts : List Turn) : Type 0 where
+  pub calls : List Called
+  pub ran : History h calls
+  pub are : turns calls ≡ ts
+
 -- after a format of a card with the key and the depth of an anchor's bytes
 abbrev pub begin : List ℕ → List ℕ → State
 begin anchor card = start (cmacOf (anchorOf anchor .key)) (anchorOf anchor .key) (anchorOf anchor .depth) card

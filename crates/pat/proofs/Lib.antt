@@ -1,2 +1,3 @@
 pub mod HostLaws
 pub mod AnchorLaws
+pub mod Examples

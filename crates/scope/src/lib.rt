@@ -1,1 +1,1 @@
-// Document 01's table and its rule of a read are specifications and proofs alone: this crate runs nothing.
+// Document 01's table, its rules and when a read is accepted are specifications and proofs alone: this crate runs nothing.
