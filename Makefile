@@ -6,7 +6,7 @@ ARCHIVES = probe_cipher probe_cmac pat
 
 help:
 	@echo 'make demo      the command-line tool on a card image that somebody alters'
-	@echo 'make check     every test, then the gate: every proof, must-fail edit and program'
+	@echo 'make check     the gate: every proof, must-fail edit and program, then every test'
 	@echo 'make test      the tests in Rust alone'
 	@echo 'make host-test the tests of the C side alone: header, calls, tool, installation'
 	@echo 'make install   the library, its header and the tool into PREFIX, under DESTDIR if given; make uninstall removes them'

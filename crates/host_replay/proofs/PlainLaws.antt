@@ -186,7 +186,8 @@ module _ (anchor card made left : List ℕ) (formatted : Formatted anchor card 0
       from-zero : (m : ℕ) → 0 + m ≡ m
       from-zero m = omega arith
 
-      sum : (t m c w d : ℕ) → t ≡ w * anchorOf anchor .depth → m ≡ c → d ≡ anchorOf anchor .depth → t + m * d ≡ (w + c) * anchorOf anchor .depth
+      sum : (t m c w d : ℕ) → t ≡ w * anchorOf anchor .depth → m ≡ c → d ≡ anchorOf anchor .depth
+          → t + m * d ≡ (w + c) * anchorOf anchor .depth
       sum t m c w d p q e = rw (p, q, e) (sym (add-mul w c (anchorOf anchor .depth)))
 
   -- an accepted place of the list is a call that answered 0

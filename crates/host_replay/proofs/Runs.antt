@@ -38,13 +38,22 @@ module _ (s : List ℕ) (long : length s ≡ anchorBytes) (x : Step) where
   abbrev left : Outcome
   left = outcome (cmacOf (anchorOf s .key)) (anchorOf s) (x .card) (x .call)
 
-  host-stands : Stands (hostCall s (x .card) (x .call) .anchor) (outcome (cmacOf (anchorOf s .key)) (anchorOf s) (x .card) (x .call) .anchor)
+  host-stands : Stands (hostCall s (x .card) (x .call) .anchor) (outcome (cmacOf (anchorOf s .key)) (anchorOf s) (x .card)
+      (x .call) .anchor)
   host-stands =
       call-stands s long (x .card) (x .call) (host .code) (host .anchor) (host .card) (host .lent)
       (record { coded = refl; anchored = refl; left = refl; filled = refl })
 
   abbrev called-bytes : Called
-  called-bytes = record { given = bytes s; step = x; code = host .code; anchor = bytes (host .anchor); card = host .card; lent = host .lent }
+  called-bytes = record {
+    given = bytes s;
+    step = x;
+    code = host .code;
+    anchor = bytes
+        (host .anchor);
+    card = host .card;
+    lent = host .lent;
+  }
 
   abbrev called-struct : Called
   called-struct =

@@ -22,7 +22,8 @@ use Rattle.tree.specs.declared.Answer.{Answer}
 use Rattle.tree.specs.declared.Answer.the-variants.{Whole, Wrong, Refused}
 use Rattle.tree.proofs.ByteLaws.{length-be}
 use Rattle.tree.proofs.CallLaws.{accepted}
-use Rattle.pat.specs.Host.{anchorBytes, refusedLength, number, anchorOf, codeOf, Host, hosted, measured, hostCall, hostFormat, Hosts, Codes}
+use Rattle.pat.specs.Host.{anchorBytes, refusedLength, number, anchorOf, codeOf, Host, hosted, measured, hostCall, hostFormat}
+use Rattle.pat.specs.Host.{Hosts, Codes}
 use Rattle.pat.specs.RoundTrip.{Stands, RoundTrip}
 use Rattle.pat.proofs.HostLaws.{number-be, measured-in, measured-out, host-call, host-format}
 

@@ -75,5 +75,7 @@ refusedAt oldRead oldCheck mixedRead mixedCheck =
 
 -- At depth 1 both leaves are old. At depths 2 and 3 the leaf and its parent are old, and right for each other.
 pub computed : (history 1 0 2 3 ≡ refusedAt 2 2 2 2) × (history 2 2 3 6 ≡ refusedAt 3 2 3 3) × (history 3 5 6 13 ≡ refusedAt 3 2 6 6)
-unfolding start next moved format formatAnswer zeroed limits firstFailing checks outcome answerOf firstWrong blanked written stamped labels blankLabels newLabels raised allNodes upTo pathNode sibling path pairs pairsButLeaf be size offset label tag form same rangesTo encode
+unfolding start next moved format formatAnswer zeroed limits firstFailing checks outcome answerOf firstWrong blanked written stamped
+    labels blankLabels newLabels raised allNodes upTo pathNode sibling path pairs pairsButLeaf be size offset label tag form same rangesTo
+    encode
 computed = (refl, refl, refl)

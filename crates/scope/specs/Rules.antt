@@ -30,7 +30,8 @@ pub record Rules : Type 0 where
   pub write-checks : (block ranges : List ℕ) → checks 3 (write 5 block ranges) ≡ 3 ∷ 2 ∷ 6 ∷ 7 ∷ 12 ∷ []
   pub check-checks : checks 2 check ≡ 2 ∷ 3 ∷ 4 ∷ 5 ∷ 6 ∷ 7 ∷ []
   -- "Tests run in rising number, skipping those that a call lacks"
-  pub read-limits : (a : Anchor) (card : List ℕ) (i : ℕ) (buffer : List ℕ) → numbers (limits a card (read i buffer)) ≡ 1 ∷ 2 ∷ 3 ∷ 4 ∷ 5 ∷ []
+  pub read-limits : (a : Anchor) (card : List ℕ) (i : ℕ) (buffer : List ℕ)
+      → numbers (limits a card (read i buffer)) ≡ 1 ∷ 2 ∷ 3 ∷ 4 ∷ 5 ∷ []
   pub write-limits : (a : Anchor) (card : List ℕ) (i : ℕ) (block ranges : List ℕ)
       → numbers (limits a card (write i block ranges)) ≡ 1 ∷ 2 ∷ 3 ∷ 4 ∷ 5 ∷ 6 ∷ 7 ∷ []
   pub check-limits : (a : Anchor) (card : List ℕ) → numbers (limits a card check) ≡ 1 ∷ 2 ∷ 3 ∷ []
