@@ -37,7 +37,7 @@ abbrev pub writesBy : List Called → ℕ
 writesBy [] = 0
 writesBy (r ∷ rs) = counted r + writesBy rs
 
--- what a call on a card of depth n gave is what the array, told of it, holds
+-- What a call on a card of depth n gave is what the array, told of it, holds. It is said anew here, and proved of what `replay` says.
 abbrev pub Shows : ℕ → Array → List ℕ → List ℕ → Told → Type 0
 Shows n a card given (read i) = given ≡ blockAt a i
 Shows n a card given (write i block) = Unit {0}
