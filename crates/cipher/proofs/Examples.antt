@@ -1,8 +1,8 @@
--- The worked example of FIPS 197, appendix B, and two entries of its table 4, computed from the definitions.
+-- The worked example of FIPS 197, appendix B, computed from the definitions.
 use mathlib.Core.Path.{_≡_, refl}
 use mathlib.Core.List.{[], _∷_}
-use Rattle.cipher.specs.Field.{xTimes, timesLow, times, inverse}
-use Rattle.cipher.specs.SBox.{affine, sBox}
+use Rattle.tables.specs.Field.{xTimes, timesLow, times, inverse}
+use Rattle.tables.specs.SBox.{affine, sBox}
 use Rattle.cipher.specs.State.{subBytes, shiftRows, mixRow, mixColumns, addRoundKey}
 use Rattle.cipher.specs.KeyExpansion.{xorWord, rotWord, subWord, zPower, roundConstant, temp, nextWord, firstWords, keyExpansion}
 use Rattle.cipher.specs.Cipher.{roundKey, rounds, lastRound, cipherOf, encryptOf}
@@ -15,7 +15,3 @@ pub appendix-b :
 unfolding xTimes timesLow times inverse affine sBox subBytes shiftRows mixRow mixColumns addRoundKey xorWord rotWord subWord zPower
     roundConstant temp nextWord firstWords keyExpansion roundKey rounds lastRound cipherOf encryptOf
 appendix-b = refl
-
-pub sbox-entries : (sBox 0x00 ≡ 0x63) × (sBox 0x53 ≡ 0xed)
-unfolding xTimes timesLow times inverse affine sBox
-sbox-entries = (refl, refl)

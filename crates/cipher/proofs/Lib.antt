@@ -1,6 +1,3 @@
-pub mod Every
-pub mod Tables
-pub mod Inverse
 pub mod Xor
 pub mod Mixing
 pub mod Rounds

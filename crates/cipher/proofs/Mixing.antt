@@ -9,9 +9,9 @@ use lib.ListN.{drop}
 use lib.Seq.{getD-take, getD-drop}
 use Rattle.words.specs.Bytes.{at, part}
 use Rattle.cipher.specs.KeyExpansion.{xorWord}
-use Rattle.cipher.specs.SBox.{sBox}
+use Rattle.tables.specs.SBox.{sBox}
 use Rattle.cipher.specs.State.{mixRow, mixColumn}
-use Rattle.cipher.specs.Tables.{entry, IsRoundTable}
+use Rattle.tables.specs.Tables.{entry, IsRoundTable}
 use Rattle.words.specs.Words.{bytes}
 use Rattle.cipher.proofs.Xor.{xor-turn}
 use Rattle.words.proofs.Bytes.{part-part, xors, bytes-xor}

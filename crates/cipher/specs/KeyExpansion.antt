@@ -5,8 +5,8 @@ use mathlib.Core.List.{List, [], _∷_, _++_}
 use lib.Dec.{eqb}
 use lib.Bits.{bitXor}
 use Rattle.words.specs.Bytes.{at, block, part}
-use Rattle.cipher.specs.Field.{xTimes}
-use Rattle.cipher.specs.SBox.{sBox}
+use Rattle.tables.specs.Field.{xTimes}
+use Rattle.tables.specs.SBox.{sBox}
 
 -- word i of a string
 abbrev pub wordAt : List ℕ → ℕ → List ℕ

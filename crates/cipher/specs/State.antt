@@ -3,8 +3,8 @@ use Prim.Native.Nat.{ℕ, zero, suc, _+_, _*_, _/_, _%_}
 use mathlib.Core.List.{List, [], _∷_}
 use lib.Bits.{bitXor}
 use Rattle.words.specs.Bytes.{at, block}
-use Rattle.cipher.specs.Field.{times}
-use Rattle.cipher.specs.SBox.{sBox}
+use Rattle.tables.specs.Field.{times}
+use Rattle.tables.specs.SBox.{sBox}
 
 -- 3.4: a state is 16 bytes, column after column. The byte in row r of column c
 abbrev pub cell : List ℕ → ℕ → ℕ → ℕ

@@ -3,7 +3,7 @@ use words::Columns;
 ghost use mathlib.Core.Path.{_≡_};
 ghost use Prim.Native.Nat.{_+_, _<_};
 ghost use Rattle.cipher.specs.KeyExpansion.{subWord, rotWord, roundConstant, nextRoundKey, keyExpansion};
-ghost use Rattle.cipher.specs.Tables.{IsSBox};
+ghost use Rattle.tables.specs.Tables.{IsSBox};
 ghost use Rattle.words.specs.Words.{bytes, stateOf};
 
 // The expanded key.

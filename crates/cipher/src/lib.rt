@@ -1,14 +1,12 @@
-// AES-128 encryption, FIPS 197. The tables of `sbox` and `round_table` are made once and lent; `key::expand` makes the
-// expanded key, and `encrypt` runs the ten rounds over it.
+// AES-128 encryption, FIPS 197. The tables of the crate `tables` are made once and lent; `key::expand` makes the expanded key, and
+// `encrypt` runs the ten rounds over it.
 pub mod key;
 mod round;
-pub mod round_table;
-pub mod sbox;
 
 use words::Block;
 ghost use mathlib.Core.Path.{_≡_};
 ghost use Rattle.cipher.specs.Cipher.{cipherOf};
-ghost use Rattle.cipher.specs.Tables.{IsRoundTable};
+ghost use Rattle.tables.specs.Tables.{IsRoundTable};
 ghost use Rattle.words.specs.Words.{blockOf};
 
 // One block under an expanded key.

@@ -5,9 +5,9 @@ ghost use mathlib.Core.List.{[], _∷_};
 ghost use Prim.Native.Nat.{_≤_, _<_};
 ghost use Rattle.words.specs.Bytes.{at, part};
 ghost use Rattle.cipher.specs.KeyExpansion.{xorWord};
-ghost use Rattle.cipher.specs.SBox.{sBox};
+ghost use Rattle.tables.specs.SBox.{sBox};
 ghost use Rattle.cipher.specs.State.{subBytes, shiftRows, mixColumn, mixColumns, addRoundKey};
-ghost use Rattle.cipher.specs.Tables.{entry, IsRoundTable};
+ghost use Rattle.tables.specs.Tables.{entry, IsRoundTable};
 ghost use Rattle.words.specs.Words.{bytes, stateOf};
 
 // Four bytes of a byte's entry from its byte `start`. From 0, 3, 2 or 1 they are the column that the byte makes in row 0, 1, 2 or 3.

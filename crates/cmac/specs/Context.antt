@@ -6,7 +6,7 @@ use mathlib.Core.List.{List, _++_}
 use Rattle.words.specs.Bytes.{part}
 use Rattle.cipher.specs.Cipher.{cipherOf, encryptOf}
 use Rattle.cipher.specs.KeyExpansion.{keyExpansion}
-use Rattle.cipher.specs.Tables.{IsRoundTable}
+use Rattle.tables.specs.Tables.{IsRoundTable}
 use Rattle.cmac.specs.Cmac.{subkey1, subkey2, cmacWith}
 use Rattle.cmac.specs.declared.Context.{Context}
 

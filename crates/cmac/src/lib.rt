@@ -18,7 +18,7 @@ pub struct Context {
 pub fn table() -> [u8; 2048]
     ensures { λ r. ⌜ IsTable r ⌝ }
 {
-    cipher::round_table::table()
+    tables::round_table::table()
 }
 
 // The context of a key.
@@ -26,7 +26,7 @@ pub fn context_of(table: &[u8; 2048], key: [u8; 16]) -> Context
     requires { ⌜ IsTable (now table) ⌝ }
     ensures { λ r. ⌜ ContextOf key r ⌝ }
 {
-    let sbox = cipher::sbox::table();
+    let sbox = tables::sbox::table();
     let schedule = cipher::key::expand(&sbox, key);
     let subkeys = subkey::both(table, &schedule);
     Context {

@@ -7,7 +7,7 @@ ghost use mathlib.Core.Path.{_≡_};
 ghost use lib.ListN.{length};
 ghost use Rattle.cipher.specs.Cipher.{encryptOf};
 ghost use Rattle.cipher.specs.KeyExpansion.{keyExpansion};
-ghost use Rattle.cipher.specs.Tables.{IsSBox};
+ghost use Rattle.tables.specs.Tables.{IsSBox};
 ghost use Rattle.probe.specs.Told.{Told, sized, repeated};
 
 // The substitution table.
@@ -19,7 +19,7 @@ pub extern "C" fn probe_sbox(out: &mut [u8]) -> u64
     if out.len() != 256 {
         return 1;
     }
-    let s = cipher::sbox::table();
+    let s = tables::sbox::table();
     bytes::copy(&s, out);
     0
 }

@@ -9,7 +9,7 @@ pub fn expand(key: &[u8], out: &mut [u8])
     requires { ⌜ (length (now key) ≡ 16) × (length (now out) ≡ 176) ⌝ }
     ensures { λ _. ⌜ now (out .exit) ≡ keyExpansion (now (key .entry)) ⌝ }
 {
-    let sbox = cipher::sbox::table();
+    let sbox = tables::sbox::table();
     let schedule = cipher::key::expand(&sbox, probe::key_of(key));
     bytes::copy(&schedule, out);
 }
@@ -26,9 +26,9 @@ pub fn encrypt_chain(key: &[u8], block: &mut [u8], count: u64)
     requires { ⌜ (length (now key) ≡ 16) × (length (now block) ≡ 16) ⌝ }
     ensures { λ _. ⌜ now (block .exit) ≡ repeated (encryptOf (now (key .entry))) (now (block .entry)) count ⌝ }
 {
-    let sbox = cipher::sbox::table();
+    let sbox = tables::sbox::table();
     let schedule = cipher::key::expand(&sbox, probe::key_of(key));
-    let table = cipher::round_table::table();
+    let table = tables::round_table::table();
     let mut x = words::block_at(block, 0);
     let mut i: u64 = 0;
     while i < count {

@@ -5,8 +5,8 @@ use mathlib.Core.Logic.{inr}
 use Prim.Native.Nat.{ℕ, _+_, _*_, _^_, _<_, _≤_}
 use native.Mathlib.Omega.{arith}
 use lib.ListN.{length}
-use Rattle.cipher.proofs.Tables.{sbox-at}
-use Rattle.cipher.proofs.Examples.{sbox-entries}
+use Rattle.tables.proofs.Tables.{sbox-at}
+use Rattle.tables.proofs.Examples.{sbox-entries}
 use Rattle.cmac.proofs.Examples.{doubling-row}
 use Rattle.tree.specs.Numbers.{be8}
 use Rattle.tree.specs.Layout.{IsNode, size, offset, cardLength, label}

@@ -5,7 +5,7 @@ use mathlib.Core.Option.{Option, none, some}
 use Prim.Native.Nat.{ℕ, _*_, _-_, _^_}
 use lib.ListN.{length, replicate}
 use Rattle.words.specs.Bytes.{at}
-use Rattle.cipher.specs.Tables.{IsSBox}
+use Rattle.tables.specs.Tables.{IsSBox}
 use Rattle.cmac.specs.Cmac.{double}
 use Rattle.tree.specs.Numbers.{be8}
 use Rattle.tree.specs.Layout.{cardLength, label}

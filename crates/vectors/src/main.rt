@@ -175,9 +175,9 @@ fn main() {
 fn encrypted(label: &[u8], key: [u8; 16], input: &[u8])
     requires { ⌜ 16 ≤ length (now input) ⌝ }
 {
-    let sbox = cipher::sbox::table();
+    let sbox = tables::sbox::table();
     let schedule = cipher::key::expand(&sbox, key);
-    let table = cipher::round_table::table();
+    let table = tables::round_table::table();
     let output = cipher::encrypt(&table, &schedule, words::block_at(input, 0));
     line(label, words::bytes_of(output));
 }

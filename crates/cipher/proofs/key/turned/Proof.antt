@@ -2,7 +2,7 @@ use mathlib.Core.Path.{_∙_}
 use denote.Ref.{now}
 use native.Mathlib.Omega.{arith}
 use Rattle.cipher.specs.KeyExpansion.{subWord, rotWord}
-use Rattle.cipher.proofs.Tables.{sbox-at}
+use Rattle.tables.proofs.Tables.{sbox-at}
 use borrow.Author.Needs.{needs}
 use Rattle.cipher.proofs.key.turned.Statement.{statement}
 use Rattle.cipher.proofs.key.turned.Tie as tie

@@ -4,8 +4,8 @@ use mathlib.Core.Bool.{Bool, true}
 use Prim.Native.Nat.{ℕ, zero, suc, _<_}
 use lib.Dec.{T, eqb, eqb→eq}
 use lib.ListN.{replicate}
-use Rattle.cipher.specs.Field.{xTimes, timesLow, times, inverse}
-use Rattle.cipher.proofs.Every.{every, every-at}
+use Rattle.tables.specs.Field.{xTimes, timesLow, times, inverse}
+use Rattle.tables.proofs.Every.{every, every-at}
 
 inverts : ℕ → ℕ → Bool
 inverts zero x = true

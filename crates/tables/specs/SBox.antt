@@ -1,6 +1,6 @@
 -- FIPS 197, section 5.1.1: the substitution of a byte, the inverse and then the affine map.
 use Prim.Native.Nat.{ℕ, zero, suc, _+_, _*_, _/_, _%_, _^_}
-use Rattle.cipher.specs.Field.{inverse}
+use Rattle.tables.specs.Field.{inverse}
 
 -- bit i of b
 abbrev pub bit : ℕ → ℕ → ℕ

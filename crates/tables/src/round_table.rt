@@ -1,5 +1,5 @@
 // The table of the rounds. A caller makes it once and lends it: an indexed constant is copied at each use.
-ghost use Rattle.cipher.specs.Tables.{IsRoundTable};
+ghost use Rattle.tables.specs.Tables.{IsRoundTable};
 
 // The table: for each byte its entry, the column that mixing makes of its substitution in row 0, twice in a row; two entries to a line.
 pub fn table() -> [u8; 2048]

@@ -1,10 +1,10 @@
 -- The rule of every entry, from one test that is computed over the whole table.
 use mathlib.Core.Path.{refl}
-use Rattle.cipher.specs.Field.{xTimes, timesLow, times, inverse}
-use Rattle.cipher.specs.SBox.{affine, sBox}
-use Rattle.cipher.proofs.Tables.{is-sbox}
-use Rattle.cipher.proofs.sbox.table.Statement.{statement}
-use Rattle.cipher.proofs.sbox.table.Tie as tie
+use Rattle.tables.specs.Field.{xTimes, timesLow, times, inverse}
+use Rattle.tables.specs.SBox.{affine, sBox}
+use Rattle.tables.proofs.Tables.{is-sbox}
+use Rattle.tables.proofs.sbox.table.Statement.{statement}
+use Rattle.tables.proofs.sbox.table.Tie as tie
 
 returns : tie.Need-returns
 unfolding xTimes timesLow times inverse affine sBox

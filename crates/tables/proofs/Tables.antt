@@ -2,15 +2,14 @@
 use mathlib.Core.Path.{_≡_, refl}
 use mathlib.Core.Bool.{Bool, true, false}
 use mathlib.Core.List.{List, _++_}
-use Prim.Native.Nat.{ℕ, _+_, _*_, _<_}
+use Prim.Native.Nat.{ℕ, _*_, _<_}
 use lib.Dec.{T, eqb, eqb→eq}
 use lib.ListN.{length}
 use Rattle.words.specs.Bytes.{at, part, same}
-use Rattle.cipher.specs.KeyExpansion.{roundConstant}
-use Rattle.cipher.specs.SBox.{sBox}
-use Rattle.cipher.specs.Tables.{IsSBox, mixedColumn, entry, IsRoundTable}
+use Rattle.tables.specs.SBox.{sBox}
+use Rattle.tables.specs.Tables.{IsSBox, mixedColumn, entry, IsRoundTable}
 use Rattle.words.proofs.Same.{same-is}
-use Rattle.cipher.proofs.Every.{every, every-at, everyEight, eight-at}
+use Rattle.tables.proofs.Every.{every, every-at, everyEight, eight-at}
 
 abbrev pub substitutes : ℕ → ℕ → Bool
 substitutes b x = eqb x (sBox b)
@@ -22,10 +21,6 @@ is-sbox s n t b h = eqb→eq (at s b) (sBox b) (every-at substitutes s t b (rw n
 pub sbox-at : (s : List ℕ) → IsSBox s → (b : ℕ) → b < 256 → at s b ≡ sBox b
 unfolding IsSBox
 sbox-at s rule = rule
-
--- the first bytes of the round constants, from that of round 1
-abbrev pub isConstant : ℕ → ℕ → Bool
-isConstant i x = eqb x (roundConstant (i + 1))
 
 is-true : (b : Bool) → T b → b ≡ true
 is-true true t = refl

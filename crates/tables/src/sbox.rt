@@ -1,5 +1,5 @@
 // The substitution table. A caller makes it once and lends it: an indexed constant is copied at each use.
-ghost use Rattle.cipher.specs.Tables.{IsSBox};
+ghost use Rattle.tables.specs.Tables.{IsSBox};
 
 // The table.
 pub fn table() -> [u8; 256]

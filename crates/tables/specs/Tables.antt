@@ -3,8 +3,8 @@ use mathlib.Core.Path.{_≡_}
 use mathlib.Core.List.{List, [], _∷_, _++_}
 use Prim.Native.Nat.{ℕ, _*_, _<_}
 use Rattle.words.specs.Bytes.{at, part}
-use Rattle.cipher.specs.Field.{times}
-use Rattle.cipher.specs.SBox.{sBox}
+use Rattle.tables.specs.Field.{times}
+use Rattle.tables.specs.SBox.{sBox}
 
 -- the substitution of each byte
 unfoldable pub IsSBox : List ℕ → Type 0

@@ -1,10 +1,10 @@
 -- The rule of every entry, from one test that is computed over the whole table.
-use Rattle.cipher.specs.Field.{xTimes, timesLow, times, inverse}
-use Rattle.cipher.specs.SBox.{affine, sBox}
+use Rattle.tables.specs.Field.{xTimes, timesLow, times, inverse}
+use Rattle.tables.specs.SBox.{affine, sBox}
 use Rattle.words.specs.Bytes.{same}
-use Rattle.cipher.proofs.Tables.{mixes, is-round-table}
-use Rattle.cipher.proofs.round_table.table.Statement.{statement}
-use Rattle.cipher.proofs.round_table.table.Tie as tie
+use Rattle.tables.proofs.Tables.{mixes, is-round-table}
+use Rattle.tables.proofs.round_table.table.Statement.{statement}
+use Rattle.tables.proofs.round_table.table.Tie as tie
 
 returns : tie.Need-returns
 unfolding xTimes timesLow times inverse affine sBox same mixes

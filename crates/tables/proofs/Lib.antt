@@ -1,0 +1,4 @@
+pub mod Every
+pub mod Tables
+pub mod Inverse
+pub mod Examples
