@@ -1,5 +1,5 @@
 #!/bin/sh
-# Shows the tool at work on a card image, and what it says of a card with old nodes among new ones.
+# Shows the tool at work on a card image, and what it says of a card with old nodes among new ones, and of one from before a wipe.
 #   demo.sh ROUNDCARD
 set -eu
 tool=$(cd "$(dirname "$1")" && pwd)/$(basename "$1")
@@ -84,6 +84,19 @@ run 0 read --text box.anchor box.card 5
 said 'van 3: round 12, Old Mill'
 run 0 check box.anchor box.card
 run 0 show box.anchor box.card
-said 'writes made   3'
+said 'changes made  3'
+
+say 'The season is over: a wipe empties the card, under the same key. Without --yes it asks first, on a terminal.'
+run 0 wipe --yes box.anchor box.card
+run 0 read --text box.anchor box.card 5
+[ "$(cat out)" = '' ] || { echo 'NOT AS EXPECTED: the block is not empty' >&2; exit 1; }
+run 0 check box.anchor box.card
+
+say 'The card from before the wipe is an old card like any other.'
+echo '$ cp new.card box.card'
+cp new.card box.card
+run 8 read --text box.anchor box.card 5
+said 'node 3'
+run 8 check box.anchor box.card
 
 printf '\nThe demonstration went as expected.\n'

@@ -1,4 +1,4 @@
-// A round written, read back, and refused once somebody has altered the card.
+// A round written, read back, and refused once somebody has altered the card; then the card wiped.
 #include <pat.h>
 
 #include <stdio.h>
@@ -29,5 +29,12 @@ int main(void) {
     uint64_t answer = pat_read(anchor, sizeof anchor, card, sizeof card, 3, buffer, sizeof buffer);
     printf("altered: refused %u at node %u: %s\n", pat_refusal(answer), (unsigned)pat_node(answer),
            pat_refusal_text(answer));
-    return pat_refusal(answer) == PAT_REFUSED_TAG ? 0 : 1;
+    if (pat_refusal(answer) != PAT_REFUSED_TAG)
+        return 1;
+
+    if (pat_wipe(anchor, sizeof anchor, card, sizeof card) != 0)
+        return 1;
+    answer = pat_check(anchor, sizeof anchor, card, sizeof card);
+    printf("wiped: %s, under the same key\n", answer == 0 ? "an empty card" : "refused");
+    return answer == 0 ? 0 : 1;
 }

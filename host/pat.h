@@ -2,8 +2,8 @@
 //
 // A card of depth n has 2^n blocks of 64 bytes and a tree of tags over them. The anchor has the
 // key, the depth and the root nonce T. The block that an accepted read gives is the one that was
-// last written under that anchor, unless somebody has forged a CMAC under its key. (Document 01
-// calls a tag a mark and a nonce a serial.)
+// last written under that anchor, or zero where none was since the format or the last wipe, unless
+// somebody has forged a CMAC under its key. (Document 01 calls a tag a mark and a nonce a serial.)
 //
 // CONVENTIONS
 //
@@ -56,9 +56,9 @@ extern "C" {
 #endif
 
 // The version of library and header.
-#define PAT_VERSION "0.2.0"
+#define PAT_VERSION "0.3.0"
 #define PAT_VERSION_MAJOR 0
-#define PAT_VERSION_MINOR 2
+#define PAT_VERSION_MINOR 3
 #define PAT_VERSION_PATCH 0
 
 // The stack that any call needs at most.
@@ -95,7 +95,7 @@ enum pat_refusals {
     PAT_REFUSED_BLOCK_NUMBER = 4, // the block number is 2^depth or above: the calling software
     PAT_REFUSED_LENGTH = 5,       // anchor not 32 bytes, or block not 64: the calling software
     PAT_REFUSED_RANGE_LENGTH = 6, // the range buffer is too short: the calling software
-    PAT_REFUSED_SPENT = 7,        // T + depth passes 2^64 - 1: the anchor
+    PAT_REFUSED_SPENT = 7,        // no write or wipe fits, T + depth passes 2^64 - 1: the anchor
     PAT_REFUSED_TAG = 8           // the tag of the node named is wrong: whoever has the card
 };
 
@@ -190,7 +190,7 @@ static inline uint32_t pat_range_length(const uint8_t *ranges, size_t k) {
 // from the anchor and sets its T to 0, whatever it was.
 //
 // Give a key to one format only: a second would use its nonces again, and then an old card can pass
-// for a new one.
+// for a new one. pat_wipe empties a card under the key that it has.
 //
 // Refused 5: the anchor has not 32 bytes. 1: depth. 3: card length.
 uint64_t pat_format(uint8_t *anchor, size_t anchor_len, uint8_t *card, size_t card_len) PAT_CALL;
@@ -212,9 +212,9 @@ uint64_t pat_read(const uint8_t *anchor, size_t anchor_len, const uint8_t *card,
 // nonce that is used again. A card of another time than its anchor is refused with 8.
 //
 // Refused 5: the anchor has not 32 bytes. 1: depth. 2: T. 3: card length. 4: block number.
-// 5: the block has not 64 bytes. 6: range buffer. 7: T is spent; format another card with a new
-// key. 8: a tag is wrong, the first from the root downwards, at each level the path's node and then
-// its sibling; the tag of the block that is replaced is not looked at.
+// 5: the block has not 64 bytes. 6: range buffer. 7: T is spent, for a wipe too; format another
+// card with a new key. 8: a tag is wrong, the first from the root downwards, at each level the
+// path's node and then its sibling; the tag of the block that is replaced is not looked at.
 uint64_t pat_write(uint8_t *anchor, size_t anchor_len, uint8_t *card, size_t card_len,
                    uint64_t index, const uint8_t *block, size_t block_len, uint8_t *ranges,
                    size_t ranges_len) PAT_CALL;
@@ -225,6 +225,21 @@ uint64_t pat_write(uint8_t *anchor, size_t anchor_len, uint8_t *card, size_t car
 // one of the lowest node number.
 uint64_t pat_check(const uint8_t *anchor, size_t anchor_len, const uint8_t *card,
                    size_t card_len) PAT_CALL;
+
+// Empties the card under the key that it has: all blocks zero, all nonces on the card the new T,
+// which is the old one plus the depth, all tags right for it. Puts the new T into the anchor.
+//
+// It looks at no byte of the card, which may be damaged, of another time or never formatted. What
+// was on it is gone for good: no card of before the wipe is accepted again.
+//
+// Store the new anchor before any of the card: a tag that was seen on a card must not have a nonce
+// that is used again. After a cut between the two every read, write and check is refused with 8;
+// after one while the card is stored, a check, and each read and write that meets an old part. To
+// wipe again mends it.
+//
+// Refused 5: the anchor has not 32 bytes. 1: depth. 2: T. 3: card length. 7: T is spent; format
+// another card with a new key.
+uint64_t pat_wipe(uint8_t *anchor, size_t anchor_len, uint8_t *card, size_t card_len) PAT_CALL;
 
 // An anchor for code that keeps it in memory of its own, as boot code does: the same three things,
 // the numbers as the machine has them.

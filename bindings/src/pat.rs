@@ -1,4 +1,4 @@
-//! The product's archive: format, read, write and check, as safe calls on slices of any length.
+//! The product's archive: format, read, write, check and wipe, as safe calls on slices of any length.
 //!
 //! Each answers 0 when accepted, else the number of the refusal plus 256 times the node.
 
@@ -25,6 +25,7 @@ extern "C" {
         ranges_len: usize,
     ) -> u64;
     fn pat_check(anchor: *const u8, anchor_len: usize, card: *const u8, card_len: usize) -> u64;
+    fn pat_wipe(anchor: *mut u8, anchor_len: usize, card: *mut u8, card_len: usize) -> u64;
 }
 
 /// Makes a fresh card for the key and depth of the anchor, and sets the anchor's root nonce to 0.
@@ -84,4 +85,17 @@ pub fn write(
 pub fn check(anchor: &[u8], card: &[u8]) -> u64 {
     // SAFETY: the pointers and lengths are those of slices that live through the call.
     unsafe { pat_check(anchor.as_ptr(), anchor.len(), card.as_ptr(), card.len()) }
+}
+
+/// Empties the card under the same key, and puts the next root nonce into the anchor.
+pub fn wipe(anchor: &mut [u8], card: &mut [u8]) -> u64 {
+    // SAFETY: the pointers and lengths are those of slices that live through the call and lie apart.
+    unsafe {
+        pat_wipe(
+            anchor.as_mut_ptr(),
+            anchor.len(),
+            card.as_mut_ptr(),
+            card.len(),
+        )
+    }
 }

@@ -67,7 +67,7 @@ int anchor_lock_failure(const struct request *request, const char *path) {
                    path, request->wait);
 }
 
-int anchor_open(const struct request *request, struct anchor *anchor, enum lock lock) {
+int anchor_open_again(const struct request *request, struct anchor *anchor, enum lock lock) {
     *anchor = (struct anchor){.path = request->words[0]};
     anchor->file = anchor_lock(request, anchor->path, lock, &anchor->status);
     if (anchor->file < 0)
@@ -77,9 +77,14 @@ int anchor_open(const struct request *request, struct anchor *anchor, enum lock 
         anchor_close(anchor);
         return status;
     }
-    if (anchor->length == PAT_ANCHOR_BYTES)
-        warn_if_open(request, anchor->path, &anchor->status);
     return 0;
+}
+
+int anchor_open(const struct request *request, struct anchor *anchor, enum lock lock) {
+    int status = anchor_open_again(request, anchor, lock);
+    if (status == 0 && anchor->length == PAT_ANCHOR_BYTES)
+        warn_if_open(request, anchor->path, &anchor->status);
+    return status;
 }
 
 void anchor_close(struct anchor *anchor) {

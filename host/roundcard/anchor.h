@@ -28,6 +28,9 @@ int anchor_lock_failure(const struct request *request, const char *path);
 // Waits for the lock and reads the file. Gives 0, or the status of the error it reported.
 int anchor_open(const struct request *request, struct anchor *anchor, enum lock lock);
 
+// The same once more in a command: what anchor_open warned of is not said again.
+int anchor_open_again(const struct request *request, struct anchor *anchor, enum lock lock);
+
 // Gives the lock back and wipes the key.
 void anchor_close(struct anchor *anchor);
 

@@ -1,5 +1,5 @@
 // The card image: copied into memory before a call, and changed only in the ranges that a write
-// listed.
+// listed, or whole by a wipe.
 #ifndef CARD_H
 #define CARD_H
 

@@ -64,6 +64,14 @@ void json_list_close(void) {
     putchar(']');
 }
 
+void json_state(uint64_t depth, uint64_t root) {
+    json_number("depth", depth);
+    json_number("blocks", (uint64_t)1 << depth);
+    json_number("root_nonce", root);
+    json_number("changes", root / depth);
+    json_number("card_bytes", pat_card_bytes(depth));
+}
+
 void json_ranges(const char *name, const uint8_t *ranges, size_t count) {
     json_list_open(name);
     for (size_t k = 0; k < count; k++)

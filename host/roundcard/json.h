@@ -24,6 +24,10 @@ void json_hex(const char *name, const uint8_t *bytes, size_t length);
 void json_list_open(const char *name);
 void json_list_close(void);
 
+// What an anchor says of its card: depth, blocks, T, how many writes and wipes there were together,
+// since each moves T by the depth, and the card's length.
+void json_state(uint64_t depth, uint64_t root);
+
 // An array of pairs of start and length.
 void json_ranges(const char *name, const uint8_t *ranges, size_t count);
 

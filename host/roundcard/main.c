@@ -12,8 +12,8 @@
 #define VERSION "unknown"
 #endif
 
-static const struct command *const commands[] = {&format_command, &read_command, &write_command,
-                                                 &check_command, &show_command};
+static const struct command *const commands[] = {&format_command, &read_command,  &write_command,
+                                                 &wipe_command,   &check_command, &show_command};
 
 static const char help[] =
     "roundcard keeps rounds on a card image that anybody may alter, and sees if they did.\n"
@@ -21,6 +21,7 @@ static const char help[] =
     "  roundcard format --depth N [--key-file FILE] [--force] ANCHOR CARD\n"
     "  roundcard read   [--output FILE | --text | --hex] ANCHOR CARD BLOCK\n"
     "  roundcard write  [--input FILE | --text TEXT] ANCHOR CARD BLOCK\n"
+    "  roundcard wipe   [--yes] ANCHOR CARD\n"
     "  roundcard check  [--all] [--picture FILE] ANCHOR CARD\n"
     "  roundcard show   ANCHOR [CARD]\n"
     "\n"
@@ -46,9 +47,10 @@ static const char help[] =
     "  65  the block that was read is not text\n"
     "  70  the library gave an unknown answer, or contradicts itself\n"
     "  74  a file is missing or locked, or cannot be read or written\n"
+    "  77  a wipe was not confirmed with yes\n"
     "\n"
-    "A refused command, and one that ends with 64, 65 or 70, changes no file; nor does one\n"
-    "that ends with 74, unless it says so.\n";
+    "A refused command, and one that ends with 64, 65, 70 or 77, changes no file; nor does\n"
+    "one that ends with 74, unless it says so.\n";
 
 static const struct command *find(const char *name) {
     for (size_t k = 0; k < sizeof commands / sizeof *commands; k++)

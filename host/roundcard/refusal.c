@@ -13,13 +13,14 @@ static const char holder[] = "whoever has the card";
 static const struct remedy remedies[] = {
     [PAT_REFUSED_DEPTH] = {software,
                            "give a depth from 1 to 16, or the anchor file that format made"},
-    [PAT_REFUSED_ROOT_NONCE] = {anchor, "use the anchor file as format or the last write left it"},
+    [PAT_REFUSED_ROOT_NONCE] = {anchor,
+                                "use the anchor file as format, write or wipe last left it"},
     [PAT_REFUSED_CARD_LENGTH] = {holder, "give the whole card image that belongs to this anchor"},
     [PAT_REFUSED_BLOCK_NUMBER] = {software, "give the number of a block that the card has"},
     [PAT_REFUSED_LENGTH] = {software, "give an anchor file of 32 bytes and a block of 64"},
     [PAT_REFUSED_RANGE_LENGTH] = {software, "give a range buffer of 16 bytes for each level"},
     [PAT_REFUSED_SPENT] = {anchor, "format a card under a new key, and write the rounds there"},
-    [PAT_REFUSED_TAG] = {holder, "put back the card as format or the last write left it"},
+    [PAT_REFUSED_TAG] = {holder, "put back the card as format, write or wipe last left it"},
 };
 
 struct situation situation_of(const struct anchor *anchor_file, const struct card *card) {
@@ -116,9 +117,12 @@ static void describe(char *text, const struct situation *s) {
     }
 }
 
-static const char anew[] = "format another card with a new key and write the rounds there";
+// What helps where no write does, and a card to put back is not there.
+static const char else_help[] =
+    "else format another card with a new key and write the rounds there; only where a wipe was "
+    "cut, or no round on this card is wanted any more, wipe it: that empties all its blocks";
 
-// Both children of the root change with every write.
+// Both children of the root change with every write and wipe.
 static const char *remark(uint64_t node) {
     return node < 4 ? " (a card of another time than its anchor is refused here)" : "";
 }
@@ -135,13 +139,12 @@ static void advise_on_block(char *text, const struct situation *s, uint64_t node
     else if (hindrance == (node ^ 1))
         snprintf(text, LONGEST,
                  "%s%s; no write mends blocks %" PRIu64 " and %" PRIu64
-                 ", since each needs the other one right: else %s",
-                 plain, remark(node), index & ~(uint64_t)1, index | 1, anew);
+                 ", since each needs the other one right: %s",
+                 plain, remark(node), index & ~(uint64_t)1, index | 1, else_help);
     else
         snprintf(text, LONGEST,
-                 "%s; no write mends block %" PRIu64 ", since node %" PRIu64
-                 " is wrong too: else %s",
-                 plain, index, hindrance, anew);
+                 "%s; no write mends block %" PRIu64 ", since node %" PRIu64 " is wrong too: %s",
+                 plain, index, hindrance, else_help);
 }
 
 // More on a wrong tag. No write makes a node above the blocks right.
@@ -150,8 +153,8 @@ static void advise_on_tag(char *text, const struct situation *s) {
     if (node >> s->depth != 0)
         advise_on_block(text, s, node);
     else
-        snprintf(text, LONGEST, "%s%s; no write mends it: else %s",
-                 remedies[PAT_REFUSED_TAG].advice, remark(node), anew);
+        snprintf(text, LONGEST, "%s%s; no write mends it: %s", remedies[PAT_REFUSED_TAG].advice,
+                 remark(node), else_help);
 }
 
 // Whether the library can have given the answer: a node with 8 alone, and one that the card has,

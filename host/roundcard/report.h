@@ -7,10 +7,11 @@
 
 // Exit statuses besides 0 and the refusal numbers.
 enum {
-    STATUS_USAGE = 64,   // the command line
-    STATUS_DATA = 65,    // the block is not text
-    STATUS_LIBRARY = 70, // an answer that the library does not have
-    STATUS_FILE = 74,    // a file
+    STATUS_USAGE = 64,       // the command line
+    STATUS_DATA = 65,        // the block is not text
+    STATUS_LIBRARY = 70,     // an answer that the library does not have
+    STATUS_FILE = 74,        // a file
+    STATUS_UNCONFIRMED = 77, // a question was not answered with yes
 };
 
 #define PRINTF(text, values) __attribute__((format(printf, text, values)))

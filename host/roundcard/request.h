@@ -16,6 +16,7 @@ enum option {
     OPTION_HEX,
     OPTION_ALL,
     OPTION_PICTURE,
+    OPTION_YES,
     OPTION_WAIT,
     OPTION_JSON,
     OPTION_HELP,

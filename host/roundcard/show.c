@@ -23,22 +23,17 @@ static uint64_t limit(const struct situation *s, bool with_card) {
 }
 
 static int report(const struct request *request, const struct situation *s) {
-    uint64_t blocks = (uint64_t)1 << s->depth, writes = s->root / s->depth;
-    size_t bytes = pat_card_bytes(s->depth);
     if (request->options[OPTION_JSON] == NULL) {
+        uint64_t blocks = (uint64_t)1 << s->depth;
         printf("depth         %" PRIu64 "\n", s->depth);
         printf("blocks        %" PRIu64 ", numbers 0 to %" PRIu64 "\n", blocks, blocks - 1);
         printf("root nonce T  %" PRIu64 "\n", s->root);
-        printf("writes made   %" PRIu64 "\n", writes);
-        printf("card size     %zu bytes\n", bytes);
+        printf("changes made  %" PRIu64 ", writes and wipes together\n", s->root / s->depth);
+        printf("card size     %zu bytes\n", pat_card_bytes(s->depth));
         return finish_output(request);
     }
     json_open("show", 0);
-    json_number("depth", s->depth);
-    json_number("blocks", blocks);
-    json_number("root_nonce", s->root);
-    json_number("writes", writes);
-    json_number("card_bytes", bytes);
+    json_state(s->depth, s->root);
     json_close();
     return finish_output(request);
 }
@@ -69,9 +64,9 @@ static int run_show(const struct request *request) {
 static const char help[] =
     "usage: roundcard show [--json] ANCHOR [CARD]\n"
     "\n"
-    "Shows the depth, the root nonce T, the number of writes made and the size of the\n"
-    "card that an anchor file is for. It never shows the key. With a card image, it also\n"
-    "sees whether the image has that size; it checks no tag.\n"
+    "Shows the depth, the root nonce T, the number of changes made, which are writes and\n"
+    "wipes, and the size of the card that an anchor file is for. It never shows the key.\n"
+    "With a card image, it also sees whether the image has that size; it checks no tag.\n"
     "\n"
     "  --json  report as a JSON object\n"
     "\n"

@@ -2,19 +2,16 @@
 #include "anchor.h"
 #include "card.h"
 #include "commands.h"
-#include "files.h"
 #include "input.h"
 #include "json.h"
 #include "refusal.h"
 #include "report.h"
-#include "signals.h"
+#include "store.h"
 #include "text.h"
 
-#include <errno.h>
 #include <inttypes.h>
 #include <stdio.h>
 #include <string.h>
-#include <sys/resource.h>
 
 // The new block, and by how much a longer one, or a text with a newline behind it, is known.
 struct new_block {
@@ -74,71 +71,36 @@ static int take_input(const struct request *request, struct new_block *new) {
     return take_bytes(request, request->options[OPTION_INPUT], new, PAT_BLOCK_BYTES + 1);
 }
 
-// Whether the card's ranges can be written under the file-size limit: once the anchor is replaced
-// it would be too late to see.
-static bool within_limit(const uint8_t *ranges, size_t count) {
-    struct rlimit limit;
-    uint64_t end =
-        (uint64_t)pat_range_start(ranges, count - 1) + pat_range_length(ranges, count - 1);
-    if (getrlimit(RLIMIT_FSIZE, &limit) != 0 || limit.rlim_cur == RLIM_INFINITY ||
-        end <= limit.rlim_cur)
-        return true;
-    errno = EFBIG;
-    return false;
-}
-
-// The anchor first: once a new tag can be seen on the card, its nonces must not be used again,
-// whatever is cut off.
-static int store(const struct request *request, const struct anchor *anchor,
-                 const struct card *card, const uint8_t *ranges) {
-    struct replacement new = {.file = -1, .directory = -1};
-    int status = 0;
-    if (!within_limit(ranges, 2 * anchor_depth(anchor)))
-        status = system_failure(request, "cannot write the card image %s; nothing is changed",
-                                card->path);
-    else if (!replacement_open(&new, anchor->path, S_IRUSR | S_IWUSR, true) ||
-             !replacement_fill(&new, anchor->bytes, PAT_ANCHOR_BYTES) || !replacement_commit(&new))
-        status = system_failure(request, "cannot replace the anchor file %s; nothing is changed",
-                                anchor->path);
-    else if (!replacement_sync(&new) || !card_put_ranges(card, ranges, 2 * anchor_depth(anchor)))
-        status = system_failure(
-            request,
-            "the anchor file %s is replaced, but the card image %s could not be written "
-            "whole: 'roundcard check --all' lists the blocks that are refused",
-            anchor->path, card->path);
-    replacement_close(&new);
-    return status;
-}
-
-// The same, with signals held back until both files are out. One that came may end the tool before
-// its report.
-static int store_undisturbed(const struct request *request, const struct anchor *anchor,
-                             const struct card *card, const uint8_t *ranges, uint64_t index) {
-    sigset_t before;
-    hold_signals(&before);
-    int status = store(request, anchor, card, ranges);
-    if (status == 0 && signal_waits())
-        notice(request, "block %" PRIu64 " is written, and a signal came meanwhile", index);
-    release_signals(&before);
-    return status;
-}
-
 static int report(const struct request *request, const struct anchor *anchor, uint64_t index,
-                  const uint8_t *ranges) {
+                  const struct change *change) {
     uint64_t depth = anchor_depth(anchor), root = anchor_root(anchor);
     if (request->options[OPTION_JSON] == NULL) {
-        printf("wrote block %" PRIu64 ": T is %" PRIu64 ", %" PRIu64
-               " ranges of the card changed\n",
-               index, root, 2 * depth);
-        return finish_after(request, "block %" PRIu64 " is written", index);
+        printf("wrote block %" PRIu64 ": T is %" PRIu64 ", %zu ranges of the card changed\n", index,
+               root, change->count);
+        return finish_after(request, "%s", change->done);
     }
     json_open("write", 0);
     json_number("block", index);
     json_number("root_nonce", root);
-    json_number("writes", root / depth);
-    json_ranges("ranges", ranges, 2 * depth);
+    json_number("changes", root / depth);
+    json_ranges("ranges", change->ranges, change->count);
     json_close();
-    return finish_after(request, "block %" PRIu64 " is written", index);
+    return finish_after(request, "%s", change->done);
+}
+
+// Puts an accepted write out.
+static int put_out(const struct request *request, const struct anchor *anchor,
+                   const struct card *card, uint64_t index, const uint8_t *ranges) {
+    char done[64];
+    snprintf(done, sizeof done, "block %" PRIu64 " is written", index);
+    const struct change change = {
+        .ranges = ranges,
+        .count = PAT_RANGES(anchor_depth(anchor)),
+        .done = done,
+        .helps = "'roundcard check --all' lists the blocks that are refused",
+    };
+    int status = store(request, anchor, card, &change);
+    return status == 0 ? report(request, anchor, index, &change) : status;
 }
 
 static int write_block(const struct request *request, struct anchor *anchor, struct card *card,
@@ -151,10 +113,8 @@ static int write_block(const struct request *request, struct anchor *anchor, str
     situation.index = index;
     situation.block_len = new->length;
     situation.writes = true;
-    if (answer != 0)
-        return explain_refusal(request, &situation);
-    int status = store_undisturbed(request, anchor, card, ranges, index);
-    return status == 0 ? report(request, anchor, index, ranges) : status;
+    return answer == 0 ? put_out(request, anchor, card, index, ranges)
+                       : explain_refusal(request, &situation);
 }
 
 static int run_write(const struct request *request) {

@@ -16,6 +16,19 @@ static bool in_place(uint8_t *anchor, uint8_t *card, const uint8_t *block, uint8
     return answer == PAT_ACCEPTED && own.root == 2 * depth;
 }
 
+// A wipe, after which every block is zero again.
+static bool wiped(uint8_t *anchor, uint8_t *card) {
+    static const std::array<uint8_t, PAT_BLOCK_BYTES> zero{};
+    std::array<uint8_t, PAT_BLOCK_BYTES> buffer;
+    buffer.fill(1);
+    uint64_t answer = pat_wipe(anchor, PAT_ANCHOR_BYTES, card, pat_card_bytes(depth));
+    if (answer != PAT_ACCEPTED || pat_get_number(anchor + PAT_ANCHOR_ROOT) != 3 * depth)
+        return false;
+    answer = pat_read(anchor, PAT_ANCHOR_BYTES, card, pat_card_bytes(depth), 5, buffer.data(),
+                      buffer.size());
+    return answer == PAT_ACCEPTED && buffer == zero;
+}
+
 int main() {
     std::array<uint8_t, PAT_ANCHOR_BYTES> anchor{};
     std::array<uint8_t, PAT_BLOCK_BYTES> block{}, buffer{};
@@ -43,5 +56,7 @@ int main() {
     answer = pat_check(anchor.data(), anchor.size(), card.data(), card.size());
     bool refused = pat_refusal(answer) == PAT_REFUSED_TAG && pat_node(answer) == 6;
     bool blocks = pat_first_block(depth, 6) == 4 && pat_last_block(depth, 6) == 5;
-    return refused && blocks && std::strlen(pat_refusal_text(answer)) > 0 ? 0 : 6;
+    if (!refused || !blocks || std::strlen(pat_refusal_text(answer)) == 0)
+        return 6;
+    return wiped(anchor.data(), card.data()) ? 0 : 7;
 }

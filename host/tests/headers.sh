@@ -43,7 +43,9 @@ for cc in "${CC:-gcc}" clang; do
     done
     compile "$cc" c11 "$here/misuse.c"
     misuse IGNORED_ANSWER 'unused-result'
+    misuse IGNORED_WIPE 'unused-result'
     misuse NULL_POINTER 'nonnull'
+    misuse NO_CARD_TO_WIPE 'nonnull'
     misuse NO_DEPTH 'zero.size'
 done
 for cxx in "${CXX:-g++}" clang++; do

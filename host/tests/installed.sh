@@ -61,6 +61,7 @@ fi
 "$room/example" >"$room/out" || fail 'the example'
 grep -q 'block 3: van 7: round 12' "$room/out" || fail 'the example reads something else'
 grep -q 'refused 8 at node 7' "$room/out" || fail 'the example is not refused'
+grep -q 'wiped: an empty card' "$room/out" || fail 'the example does not end with an empty card'
 
 run_make uninstall
 [ "$(list)" = "$others" ] || fail "uninstall leaves or takes something: $(list)"

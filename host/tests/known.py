@@ -1,11 +1,17 @@
 #!/usr/bin/env python3
 """Prints known.h: histories of accepted calls, and what each leaves, computed by model.py and not by the library."""
 
+from functools import lru_cache
+
 from model import Card
 
 KEY = bytes(range(0x40, 0x50))
 
+# Steps of a history beside the writes, which are block numbers: a wipe of the card as it is, and of one with other bytes.
+WIPE, WIPE_OTHER = "wipe", "wipe of other bytes"
 
+
+@lru_cache(maxsize=1)
 def digest(data):
     """FNV-1a in 64 bits."""
     value = 0xCBF29CE484222325
@@ -21,18 +27,42 @@ def block(seed):
     return bytes((seed * 59 + 17 * k + k * k) % 256 for k in range(64))
 
 
-def steps(depth, writes, root):
-    """The rows of a history: its start, its writes, two by two the same block, reads after each, and a check at the end."""
-    card = Card(KEY, depth, root)
-    yield "START", 0, "", card, ""
-    for count, index in enumerate(writes):
+def start(depth, root, made):
+    """The row and the card of a start: a format's, its root nonce moved, or made for that root nonce."""
+    card = Card(KEY, depth, root if made else 0)
+    card.root = root
+    return ("START", int(made), "", card, ""), card
+
+
+def write_rows(card, index, seed):
+    """A write, and reads of another block and of that one."""
+    ranges = card.write(index, block(seed))
+    packed = b"".join(n.to_bytes(4, "big") for pair in ranges for n in pair)
+    yield "WRITE", index, block(seed).hex(), card, packed.hex()
+    other = (index * 5 + 1) % 2**card.depth
+    yield "READ", other, card.block(other).hex(), card, ""
+    yield "READ", index, card.block(index).hex(), card, ""
+
+
+def wipe_rows(card, seed):
+    """A wipe, where the seed is not 0 of a card with bytes made from it, a read of the last block and a check."""
+    card.wipe()
+    yield "WIPE", seed, "", card, ""
+    last = 2**card.depth - 1
+    yield "READ", last, card.block(last).hex(), card, ""
+    yield "CHECK", 0, "", card, ""
+
+
+def rows(depth, steps, root, made):
+    """The rows of a history: its start, its steps, two by two the same block, and a check at the end."""
+    first, card = start(depth, root, made)
+    yield first
+    for count, step in enumerate(steps):
         seed = depth + count // 2
-        ranges = card.write(index, block(seed))
-        packed = b"".join(n.to_bytes(4, "big") for pair in ranges for n in pair)
-        yield "WRITE", index, block(seed).hex(), card, packed.hex()
-        other = (index * 5 + 1) % 2**depth
-        yield "READ", other, card.block(other).hex(), card, ""
-        yield "READ", index, card.block(index).hex(), card, ""
+        if step in (WIPE, WIPE_OTHER):
+            yield from wipe_rows(card, seed if step == WIPE_OTHER else 0)
+        else:
+            yield from write_rows(card, step, seed)
     yield "CHECK", 0, "", card, ""
 
 
@@ -42,28 +72,35 @@ def long_string(text):
     return "\n     ".join(f'"{piece}"' for piece in pieces)
 
 
+# Name, depth, steps, root nonce at the start, and whether the card is made for it: a wipe needs no such card.
 HISTORIES = [
-    ("one", 1, [0, 1, 1, 0], 0),
-    ("two", 2, [2, 0, 0, 3, 1], 0),
-    ("three", 3, [5, 5, 0, 7, 2, 6, 1, 4, 3], 0),
-    ("seven", 7, [0, 127, 64, 63, 90, 90, 1], 0),
-    ("sixteen", 16, [0, 65535, 40000, 40001], 0),
-    ("last", 2, [1], 2**64 - 4),
+    ("one", 1, [0, 1, 1, 0], 0, False),
+    ("two", 2, [2, 0, 0, 3, 1], 0, False),
+    ("three", 3, [5, 5, 0, 7, 2, 6, 1, 4, 3], 0, False),
+    ("seven", 7, [0, 127, 64, 63, 90, 90, 1], 0, False),
+    ("sixteen", 16, [0, 65535, 40000, 40001], 0, False),
+    ("one, wiped", 1, [1, WIPE, 0, 1, WIPE, WIPE, 1, WIPE_OTHER], 0, False),
+    ("two, wiped", 2, [WIPE, 2, 0, WIPE_OTHER, 3, 1, 1, WIPE], 0, False),
+    ("three, wiped", 3, [5, 0, WIPE, 5, 7, WIPE_OTHER, 2, 6, 2], 0, False),
+    ("seven, wiped", 7, [90, 1, WIPE, 90, 127, WIPE_OTHER, 64], 0, False),
+    ("sixteen, wiped", 16, [40000, WIPE, 40001], 0, False),
+    ("late", 3, [WIPE_OTHER, 4, 5, WIPE, 3], 3 * 2**61, False),
+    ("all ones", 5, [WIPE], 2**64 - 6, False),
+    ("last", 2, [1], 2**64 - 4, True),
 ]
 
 
 def main():
     print("// Written by known.py: the calls of some histories and what each leaves.")
     print("static const struct row rows[] = {")
-    for name, depth, writes, root in HISTORIES:
-        for call, index, argument, card, ranges in steps(depth, writes, root):
+    for name, depth, steps, root, made in HISTORIES:
+        for call, index, argument, card, ranges in rows(depth, steps, root, made):
             print(f'    {{"{name}", {depth}, {call}, {index}, "{argument}",')
-            print(f"     {card.root}u, 0x{digest(card.bytes):016x}u, \"{ranges}\"}},")
+            print(f"     {card.root}u, 0x{digest(bytes(card.bytes)):016x}u, \"{ranges}\"}},")
     print("};")
-    start = Card(KEY, 2, 2**64 - 4)
     print("// The card from which the history 'last' starts: no format makes it.")
     print("static const char last_card[] =")
-    print(f"    {long_string(bytes(start.bytes).hex())};")
+    print(f"    {long_string(bytes(Card(KEY, 2, 2**64 - 4).bytes).hex())};")
 
 
 if __name__ == "__main__":

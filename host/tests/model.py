@@ -1,4 +1,5 @@
-"""The card of document 01 in plain Python, AES-128 and CMAC included, for known answers and for the tool's tests."""
+"""The card of document 01, with the wipe of request T-01, in plain Python, AES-128 and CMAC included, for known answers and for
+the tool's tests."""
 
 KEY, BLOCK, TAG, NONCE = 16, 64, 16, 8
 
@@ -103,8 +104,16 @@ class Card:
         """A card whose nonces and blocks are all zero, with tags right for the root nonce: a format where that is 0."""
         self.key, self.depth, self.root = key, depth, root
         self.cmac, self.bytes = Cmac(key), bytearray(card_bytes(depth))
+        self.empty(0)
+
+    def empty(self, nonce):
+        """Every block zero, every inner node with that nonce, every tag right for the root nonce."""
+        for node in range(2, 2**self.depth):
+            self.put_label(node, nonce.to_bytes(NONCE, "big"))
+        for node in range(2**self.depth, 2 * 2**self.depth):
+            self.put_label(node, bytes(BLOCK))
         made = {}
-        for node in range(2, 2 * 2**depth):
+        for node in range(2, 2 * 2**self.depth):
             message = self.message(node)
             if message not in made:
                 made[message] = self.cmac.tag(message)
@@ -146,6 +155,11 @@ class Card:
             for child in (node, node ^ 1):
                 self.put_tag(child, self.cmac.tag(self.message(child)))
         return self.ranges(index)
+
+    def wipe(self):
+        """An accepted wipe."""
+        self.root += self.depth
+        self.empty(self.root)
 
     def ranges(self, index):
         changed = []

@@ -46,6 +46,10 @@ static uint64_t check(void) {
     return pat_check(anchor, sizeof anchor, card, card_len);
 }
 
+static uint64_t wipe(void) {
+    return pat_wipe(anchor, sizeof anchor, card, card_len);
+}
+
 static uint64_t write_in_place(void) {
     static struct pat_anchor own;
     pat_anchor_from_bytes(&own, anchor);
@@ -94,11 +98,9 @@ static size_t measure(const struct measured *what) {
 
 // The most that a call needs at this depth.
 static size_t measure_all(uint64_t new_depth) {
-    static const struct measured calls[] = {{"pat_format", format},
-                                            {"pat_read", read},
-                                            {"pat_write", write},
-                                            {"pat_check", check},
-                                            {"pat_write_in_place", write_in_place}};
+    static const struct measured calls[] = {
+        {"pat_format", format}, {"pat_read", read}, {"pat_write", write},
+        {"pat_check", check},   {"pat_wipe", wipe}, {"pat_write_in_place", write_in_place}};
     size_t most = 0;
     depth = new_depth;
     card_len = pat_card_bytes(depth);

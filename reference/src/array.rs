@@ -1,4 +1,5 @@
-//! "The array behind demand 3": 2^n blocks, moved by the writes that were accepted. It knows nothing of card and anchor.
+//! "The array behind demand 3": 2^n blocks, moved by the writes that were accepted and emptied by the wipes. It knows nothing
+//! of card and anchor.
 
 pub const BLOCK_BYTES: usize = 64;
 
@@ -10,6 +11,7 @@ pub enum Told<'a> {
     Read(u64),
     Write(u64, &'a [u8]),
     Check,
+    Wipe,
 }
 
 /// The blocks.
@@ -34,6 +36,10 @@ impl Array {
                 self.blocks[index as usize].copy_from_slice(block);
                 None
             }
+            Told::Wipe if accepted => {
+                self.blocks.fill([0; BLOCK_BYTES]);
+                None
+            }
             _ => None,
         }
     }
@@ -53,7 +59,21 @@ impl Array {
 mod tests {
     use super::*;
 
-    /// Accepted writes move it, and nothing else does.
+    /// An accepted wipe empties it, and a refused one does not.
+    #[test]
+    fn emptied_by_accepted_wipes() {
+        let mut array = Array::formatted(1);
+        array.step(Told::Write(0, &[5; 64]), true);
+        array.step(Told::Write(1, &[6; 64]), true);
+        assert_eq!(array.step(Told::Wipe, false), None);
+        assert_eq!(array.blocks(), [[5; 64], [6; 64]]);
+        assert_eq!(array.step(Told::Wipe, true), None);
+        assert_eq!(array, Array::formatted(1));
+        array.step(Told::Write(1, &[7; 64]), true);
+        assert_eq!(array.blocks(), [[0; 64], [7; 64]]);
+    }
+
+    /// Accepted writes move it, and nothing else in a list without wipes does.
     #[test]
     fn moved_by_accepted_writes() {
         let mut array = Array::formatted(2);

@@ -77,6 +77,14 @@ pub fn pat_check(anchor: &[u8], card: &[u8]) -> u64 {
     code(&tree::check(&given, card))
 }
 
+/// Wipe.
+pub fn pat_wipe(anchor: &mut [u8], card: &mut [u8]) -> u64 {
+    let Some(given) = anchor_of(anchor) else {
+        return ANCHOR_LENGTH;
+    };
+    settle(&tree::wipe(&given, card), anchor)
+}
+
 #[cfg(test)]
 mod tests {
     use super::*;
@@ -112,6 +120,20 @@ mod tests {
         assert_eq!(buffer, [5; 64]);
     }
 
+    /// An accepted wipe puts the new T there, a refused one none, and the card of before is refused.
+    #[test]
+    fn wipe_moves_the_root_nonce() {
+        let (mut lent, mut card) = (anchor(2, 0), [0; 368]);
+        assert_eq!(pat_format(&mut lent, &mut card), 0);
+        let old = card;
+        assert_eq!(pat_wipe(&mut lent, &mut card[1..]), 3);
+        assert_eq!((&lent, card), (&anchor(2, 0), old));
+        assert_eq!(pat_wipe(&mut lent, &mut card), 0);
+        assert_eq!(lent, anchor(2, 2));
+        assert_eq!(pat_check(&lent, &card), 0);
+        assert_eq!(pat_check(&lent, &old), 8 + 256 * 2);
+    }
+
     /// Another length of the anchor is refused 5, whatever else is wrong.
     #[test]
     fn anchor_length_comes_first() {
@@ -122,6 +144,7 @@ mod tests {
             assert_eq!(pat_read(&lent, &[], 9, &mut []), 5);
             assert_eq!(pat_write(&mut lent, &mut [], 9, &[], &mut []), 5);
             assert_eq!(pat_check(&lent, &[]), 5);
+            assert_eq!(pat_wipe(&mut lent, &mut []), 5);
             assert_eq!(lent, before);
         }
     }

@@ -1,4 +1,4 @@
-//! The card, the limits and the calls of document 01, in its order.
+//! The card, the limits and the calls of document 01, in its order, with the requests of document 02.
 //!
 //! Its mark is called a tag here and its serial a nonce. Below `limits` every depth is 1 to 16 and every card has the length of
 //! its depth.
@@ -11,10 +11,12 @@ pub mod paths;
 pub mod ranges;
 mod words;
 
-pub use calls::{check, format, read, write};
+pub use calls::{check, format, read, wipe, write};
 pub use words::{Anchor, Answer, BlockIndex, Node, Nonce, Refusal};
 
 #[cfg(test)]
 mod errors;
 #[cfg(test)]
 mod rows;
+#[cfg(test)]
+mod wipes;

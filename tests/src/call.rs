@@ -4,17 +4,29 @@ use crate::guarded::Guarded;
 use bindings::pat;
 use reference::host;
 
-/// Which of the four calls.
+/// Which of the calls.
 #[derive(Clone, Copy, Debug, PartialEq, Eq)]
 pub enum Kind {
     Format,
     Read,
     Write,
     Check,
+    Wipe,
 }
 
 impl Kind {
-    pub const ALL: [Kind; 4] = [Kind::Format, Kind::Read, Kind::Write, Kind::Check];
+    pub const ALL: [Kind; 5] = [
+        Kind::Format,
+        Kind::Read,
+        Kind::Write,
+        Kind::Check,
+        Kind::Wipe,
+    ];
+
+    /// Whether the call, once accepted, moves the root nonce on.
+    pub fn moves(self) -> bool {
+        matches!(self, Kind::Write | Kind::Wipe)
+    }
 }
 
 /// A call and the bytes lent to it; any of them may have any length.
@@ -89,6 +101,7 @@ impl Call {
                 Kind::Read => pat::read(anchor, card, self.index, block.part()),
                 Kind::Write => pat::write(anchor, card, self.index, block.part(), ranges.part()),
                 Kind::Check => pat::check(anchor, card),
+                Kind::Wipe => pat::wipe(anchor, card),
             }
         };
         self.anchor = anchor.into_part("anchor");
@@ -107,6 +120,7 @@ impl Call {
             Kind::Read => host::pat_read(anchor, card, self.index, block),
             Kind::Write => host::pat_write(anchor, card, self.index, block, ranges),
             Kind::Check => host::pat_check(anchor, card),
+            Kind::Wipe => host::pat_wipe(anchor, card),
         })
     }
 

@@ -33,7 +33,7 @@ pub fn set_root(anchor: &mut [u8], root: u64) {
     anchor[24..32].copy_from_slice(&root.to_be_bytes());
 }
 
-/// The largest root nonce that is a multiple of the depth: no write fits after it, one fits before.
+/// The largest root nonce that is a multiple of the depth: no write or wipe fits after it, one fits before.
 pub fn last_root(depth: u64) -> u64 {
     u64::MAX / depth * depth
 }

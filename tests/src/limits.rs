@@ -22,6 +22,7 @@ pub fn tests_of(kind: Kind) -> &'static [u64] {
         Kind::Read => &[ANCHOR, 1, 2, 3, 4, 5, 8],
         Kind::Write => &[ANCHOR, 1, 2, 3, 4, 5, 6, 7, 8],
         Kind::Check => &[ANCHOR, 1, 2, 3, 8],
+        Kind::Wipe => &[ANCHOR, 1, 2, 3, 7],
     }
 }
 
@@ -72,7 +73,7 @@ fn set_root(call: &mut Call, multiple: Option<usize>, room: Option<usize>, rando
     let before = depth * random.below(3) as u64;
     let root = match (multiple, room) {
         (None, None) if call.kind == Kind::Format => random.word(),
-        (None, None) if call.kind == Kind::Write => last - depth - before,
+        (None, None) if call.kind.moves() => last - depth - before,
         (None, None) => last - before,
         (None, Some(_)) => last,
         (Some(way), None) => last - 2 * depth - before + 1 + way as u64 % (depth - 1),
@@ -90,7 +91,7 @@ fn set_root(call: &mut Call, multiple: Option<usize>, room: Option<usize>, rando
 /// The nodes that the call checks, in its order.
 pub fn checked(kind: Kind, depth: u64, index: u64) -> Vec<Node> {
     match kind {
-        Kind::Format => Vec::new(),
+        Kind::Format | Kind::Wipe => Vec::new(),
         Kind::Read => paths::read_checks(depth, BlockIndex(index)),
         Kind::Write => paths::write_checks(depth, BlockIndex(index)),
         Kind::Check => layout::nodes(depth).collect(),

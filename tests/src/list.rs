@@ -17,10 +17,12 @@ pub struct List {
     pub array: Array,
     /// Some cards as they were left earlier; the first is format's.
     pub old: Vec<Vec<u8>>,
-    /// The root nonce at the start, and how many writes were accepted since.
+    /// How many wipes were accepted.
+    pub wipes: u64,
+    /// The root nonce at the start, and how many writes and wipes were accepted since.
     start: u64,
-    writes: u64,
-    /// Whether every accepted write so far had an untouched card.
+    moves: u64,
+    /// Whether every accepted write since the format or the last wipe had an untouched card.
     clean: bool,
 }
 
@@ -36,17 +38,18 @@ impl List {
             array: Array::formatted(depth),
             old: vec![call.card.clone()],
             card: call.card,
+            wipes: 0,
             start: 0,
-            writes: 0,
+            moves: 0,
             clean: true,
         }
     }
 
-    /// The same card made right for a root nonce from which that many writes go up to the limit. Every nonce used from here
-    /// on is new, as after so many writes.
+    /// The same card made right for a root nonce from which that many writes or wipes go up to the limit. Every nonce used
+    /// from here on is new, as after so many of them.
     pub fn moved_before(mut self, limit: u64, room: u64) -> Self {
         self.start = limit / self.depth * self.depth - room * self.depth;
-        self.writes = 0;
+        self.moves = 0;
         cards::set_root(&mut self.anchor, self.start);
         cards::restamp(&self.anchor, &mut self.card);
         self
@@ -85,7 +88,18 @@ impl List {
 
     /// An honest write, which is accepted; the list goes on with it.
     pub fn write(&mut self, index: u64, random: &mut Random) {
-        let before = self.call(Kind::Write, index, random);
+        let call = self.call(Kind::Write, index, random);
+        self.go_on(call, random);
+    }
+
+    /// A wipe of the card as last left, which is accepted; the list goes on with it.
+    pub fn wipe(&mut self, random: &mut Random) {
+        let call = self.call(Kind::Wipe, 0, random);
+        self.go_on(call, random);
+    }
+
+    /// Goes on with a call that has to be accepted.
+    pub fn go_on(&mut self, before: Call, random: &mut Random) {
         let mut after = before.clone();
         assert_eq!(after.both(), Answer::ACCEPTED);
         self.judge(&before, &after, Answer::ACCEPTED);
@@ -113,6 +127,7 @@ impl List {
             }
             Kind::Write if accepted => expect_inside_ranges(self.depth, before, after),
             Kind::Check if accepted => self.expect_array(&before.card),
+            Kind::Wipe => self.expect_wiped(before, after, accepted),
             _ => {}
         }
     }
@@ -124,17 +139,38 @@ impl List {
         }
     }
 
-    /// Goes on after an accepted write.
+    /// A wipe within its limits is accepted, and leaves the same whatever was on the card.
+    fn expect_wiped(&self, before: &Call, after: &Call, accepted: bool) {
+        let room = u64::MAX - cards::root(&self.anchor) >= self.depth;
+        let fits = before.card.len() == self.card.len();
+        assert_eq!(accepted, room && fits, "{}", before.short());
+        if accepted {
+            let mut own = before.clone();
+            own.card.copy_from_slice(&self.card);
+            assert_eq!(own.archive(), Answer::ACCEPTED);
+            after.expect_bytes(&own, "the card as last left, wiped");
+        }
+    }
+
+    /// Goes on after an accepted write or wipe.
     pub fn accept(&mut self, before: &Call, after: Call, random: &mut Random) {
-        let told = Told::Write(before.index, &before.block);
+        let wiped = before.kind == Kind::Wipe;
+        let told = match wiped {
+            true => Told::Wipe,
+            false => Told::Write(before.index, &before.block),
+        };
         self.array.step(told, true);
-        self.clean &= before.card == self.card;
-        self.writes += 1;
+        self.clean = wiped || self.clean && before.card == self.card;
+        self.moves += 1;
+        self.wipes += u64::from(wiped);
         let left = std::mem::replace(&mut self.card, after.card);
         self.keep(left, random);
         self.anchor = after.anchor;
-        let expected = self.start + self.writes * self.depth;
+        let expected = self.start + self.moves * self.depth;
         assert_eq!(cards::root(&self.anchor), expected);
+        if wiped {
+            self.expect_array(&self.card);
+        }
     }
 
     /// Keeps an earlier card, in the place of another when there are many.

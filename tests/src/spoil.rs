@@ -181,6 +181,7 @@ fn anchor_depth(call: &mut Call, random: &mut Random) {
         any,
         within,
         within,
+        within,
     ];
     cards::set_depth(&mut call.anchor, pick(random, &beyond));
 }

@@ -9,8 +9,8 @@ const ANCHOR_LENGTH: usize = 9;
 /// The counts, and the nodes that refusal 8 named.
 #[derive(Default)]
 pub struct Tally {
-    counts: [[u64; 10]; 4],
-    named: [BTreeSet<u64>; 4],
+    counts: [[u64; 10]; Kind::ALL.len()],
+    named: [BTreeSet<u64>; Kind::ALL.len()],
 }
 
 impl Tally {
@@ -79,5 +79,6 @@ fn answers(kind: Kind) -> &'static [usize] {
         Kind::Read => &[0, 1, 2, 3, 4, 5, 8, ANCHOR_LENGTH],
         Kind::Write => &[0, 1, 2, 3, 4, 5, 6, 7, 8, ANCHOR_LENGTH],
         Kind::Check => &[0, 1, 2, 3, 8, ANCHOR_LENGTH],
+        Kind::Wipe => &[0, 1, 2, 3, 7, ANCHOR_LENGTH],
     }
 }

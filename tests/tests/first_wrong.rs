@@ -1,4 +1,4 @@
-//! Refusal 8 names the first wrong tag in the call's checking order: every set of wrong tags at depth 3.
+//! Refusal 8 names the first wrong tag in the call's checking order: every set of wrong tags at depth 3. A wipe sees none.
 
 use reference::tree::Node;
 use tests::call::{Answer, Call, Kind};
@@ -48,7 +48,15 @@ fn expect(call: &Call, set: u64, order: impl IntoIterator<Item = u64>) {
     assert_eq!(call.archive(), expected, "set {set:b}: {}", call.short());
 }
 
-/// All 16,384 sets, with every read, every write and the check.
+/// Expects that a wipe of this card leaves what a wipe of the other did.
+fn expect_wiped(call: &Call, wiped: &Call) {
+    let mut call = call.clone();
+    call.kind = Kind::Wipe;
+    assert_eq!(call.archive(), Answer::ACCEPTED);
+    call.expect_bytes(wiped, "wiped");
+}
+
+/// All 16,384 sets, with every read, every write, the check and the wipe.
 #[test]
 fn every_set_of_wrong_tags() {
     let mut random = Random::new(0x66697273);
@@ -57,11 +65,15 @@ fn every_set_of_wrong_tags() {
         list.write(index, &mut random);
     }
     let mut call = list.call(Kind::Check, 0, &mut random);
+    let mut wiped = call.clone();
+    wiped.kind = Kind::Wipe;
+    assert_eq!(wiped.both(), Answer::ACCEPTED);
     for set in 0..1 << NODES {
         call.card.copy_from_slice(&list.card);
         for node in (2..2 + NODES).filter(|&node| has(set, node)) {
             cards::spoil_tag(&mut call.card, DEPTH, Node(node));
         }
+        expect_wiped(&call, &wiped);
         call.kind = Kind::Check;
         expect(&call, set, 2..2 + NODES);
         for index in 0..8 {

@@ -8,7 +8,7 @@ use tests::spoil;
 use tests::tally::Tally;
 
 /// Calls at each depth from 1 to 8, and in each list.
-const CALLS: u64 = 26_000;
+const CALLS: u64 = 40_000;
 const LIST: u64 = 130;
 
 /// How often each call gives each of its answers at each of these depths, at the least.
@@ -29,14 +29,15 @@ fn list(depth: u64, random: &mut Random) -> List {
 fn kind(random: &mut Random) -> Kind {
     match random.below(20) {
         0..=6 => Kind::Write,
-        7..=13 => Kind::Read,
-        14..=17 => Kind::Check,
+        7..=12 => Kind::Read,
+        13..=15 => Kind::Check,
+        16..=17 => Kind::Wipe,
         _ => Kind::Format,
     }
 }
 
-/// One call, in two of five cases with nothing altered. A write accepted on an altered card goes into the list now and then;
-/// otherwise it is as if the list had ended with it.
+/// One call, in two of five cases with nothing altered. A write or wipe accepted on an altered card goes into the list now and
+/// then; otherwise it is as if the list had ended with it.
 fn step(list: &mut List, random: &mut Random, tally: &mut Tally) {
     let index = random.below(list.blocks() as usize) as u64;
     let mut call = list.call(kind(random), index, random);
@@ -51,22 +52,24 @@ fn step(list: &mut List, random: &mut Random, tally: &mut Tally) {
     }
     list.judge(&before, &call, answer);
     let goes_on = before.card == list.card || random.below(6) == 0;
-    if before.kind == Kind::Write && answer.accepted() && goes_on {
+    if before.kind.moves() && answer.accepted() && goes_on {
         list.accept(&before, call, random);
     }
 }
 
-/// Lists of one depth.
+/// Lists of one depth, which go on after wipes.
 fn run(depth: u64, calls: u64, length: u64) -> Tally {
     let mut random = Random::new(0x6c69_7374 + depth);
-    let mut tally = Tally::default();
+    let (mut tally, mut wipes) = (Tally::default(), 0);
     while tally.calls() < calls {
         let mut list = list(depth, &mut random);
         for _ in 0..length {
             step(&mut list, &mut random, &mut tally);
         }
+        wipes += list.wipes;
     }
-    tally.print(&format!("depth {depth}"));
+    tally.print(&format!("depth {depth}, {wipes} wipes gone on from"));
+    assert!(wipes >= calls / 40, "{wipes} wipes");
     tally
 }
 
@@ -134,4 +137,5 @@ fn depth_16() {
         let (accepted, wrong) = (tally.of(kind, 0), tally.of(kind, 8));
         assert!(accepted >= 4 && wrong >= 1, "{kind:?}: both come up");
     }
+    assert!(tally.of(Kind::Wipe, 0) >= 4, "wipes come up");
 }

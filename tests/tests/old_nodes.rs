@@ -1,4 +1,5 @@
-//! Nodes of an old card put among the new ones at depth 3: no block of before is ever read as the last one.
+//! Nodes of an old card put among the new ones at depth 3, a wipe between them or not: no block of before is ever read as the
+//! last one.
 
 use reference::array::{Array, Told};
 use reference::tree::Node;
@@ -10,8 +11,17 @@ use tests::random::Random;
 const DEPTH: u64 = 3;
 const NODES: std::ops::Range<u64> = 2..16;
 
-/// The blocks written; the card before each write is an old one.
-const WRITES: [u64; 7] = [5, 2, 5, 4, 0, 2, 5];
+/// The blocks written, and a wipe among them; the card before each step is an old one.
+const STEPS: [Option<u64>; 8] = [
+    Some(5),
+    Some(2),
+    Some(5),
+    None,
+    Some(4),
+    Some(0),
+    Some(2),
+    Some(5),
+];
 
 /// What came up, so that the test holds its own reach.
 #[derive(Default, Debug)]
@@ -28,13 +38,16 @@ fn note(counts: &mut [u64; 2], answer: Answer) {
     counts[usize::from(!answer.accepted())] += 1;
 }
 
-/// A list after the writes, and the card of each stage before.
+/// A list after the steps, and the card of each stage before.
 fn staged(random: &mut Random) -> (List, Vec<Vec<u8>>) {
     let mut list = List::new(DEPTH, random);
     let mut old = Vec::new();
-    for index in WRITES {
+    for step in STEPS {
         old.push(list.card.clone());
-        list.write(index, random);
+        match step {
+            Some(index) => list.write(index, random),
+            None => list.wipe(random),
+        }
     }
     (list, old)
 }
@@ -109,13 +122,14 @@ fn every_pair() {
     assert!(all.iter().flatten().all(|&count| count >= 24), "{seen:?}");
 }
 
-/// Every set of nodes from the first and from the last old card.
+/// Every set of nodes from the first old card, from the last one before the wipe and from the last one.
 #[test]
 fn every_set() {
     let mut random = Random::new(0x736574);
     let mut seen = Seen::default();
     let (list, old) = staged(&mut random);
-    for other in [&old[0], &old[WRITES.len() - 1]] {
+    let wipe = STEPS.iter().position(Option::is_none).expect("a wipe");
+    for other in [&old[0], &old[wipe], &old[STEPS.len() - 1]] {
         for set in 0..1_u64 << (NODES.end - NODES.start) {
             let mut call = list.call(Kind::Read, 0, &mut random);
             for node in NODES.filter(|node| set >> (node - NODES.start) & 1 == 1) {

@@ -13,12 +13,13 @@ fn formatted(depth: u64, length: usize) -> (Vec<u8>, Vec<u8>) {
     (anchor, card)
 }
 
-/// What a check, a read of block 0 and a write of block 0 answer.
-fn answers(anchor: &[u8], card: &[u8]) -> [u64; 3] {
+/// What a check, a read of block 0, a write of block 0 and a wipe answer.
+fn answers(anchor: &[u8], card: &[u8]) -> [u64; 4] {
     let read = pat::read(anchor, card, 0, &mut [0; 64]);
     let (mut lent, mut written) = (anchor.to_vec(), card.to_vec());
     let write = pat::write(&mut lent, &mut written, 0, &BLOCK, &mut [0; 256]);
-    [pat::check(anchor, card), read, write]
+    let wipe = pat::wipe(&mut anchor.to_vec(), &mut card.to_vec());
+    [pat::check(anchor, card), read, write, wipe]
 }
 
 /// The number in 4 or 8 bytes of the card or the range buffer.
@@ -91,14 +92,14 @@ fn row_g() {
     assert_eq!(cards::root(&anchor), 4);
 }
 
-/// Row h: the last root nonce that a write fits after, and the next.
+/// Row h: the last root nonce that a write or a wipe fits after, and the next.
 #[test]
 fn row_h() {
     let (mut anchor, mut card) = formatted(2, 368);
     for (root, number) in [(u64::MAX - 3, 0), (u64::MAX - 1, 7)] {
         cards::set_root(&mut anchor, root);
         cards::restamp(&anchor, &mut card);
-        assert_eq!(answers(&anchor, &card), [0, 0, number]);
+        assert_eq!(answers(&anchor, &card), [0, 0, number, number]);
     }
 }
 
@@ -108,7 +109,7 @@ fn row_i() {
     let (mut anchor, mut card) = formatted(2, 368);
     cards::set_root(&mut anchor, 3);
     cards::restamp(&anchor, &mut card);
-    assert_eq!(answers(&anchor, &card), [2; 3]);
+    assert_eq!(answers(&anchor, &card), [2; 4]);
 }
 
 /// Row j: cards of 367, 368 and 369 bytes.
@@ -117,7 +118,7 @@ fn row_j() {
     let (anchor, mut card) = formatted(2, 368);
     card.push(0);
     for (length, number) in [(367, 3), (368, 0), (369, 3)] {
-        assert_eq!(answers(&anchor, &card[..length]), [number; 3]);
+        assert_eq!(answers(&anchor, &card[..length]), [number; 4]);
         let (mut lent, mut fresh) = (anchor.clone(), card[..length].to_vec());
         assert_eq!(pat::format(&mut lent, &mut fresh), number);
     }

@@ -10,7 +10,7 @@ use Rattle.tree.specs.Layout.{IsCard, label}
 use Rattle.tree.specs.Card.{blanked, written, firstWrong}
 use Rattle.tree.specs.Ranges.{rangesOf, encode}
 use Rattle.tree.specs.Limits.{depthLimit, cardLimit, firstFailing}
-use Rattle.tree.specs.Calls.{Call, read, write, check, Gives, lentTo, firstLimits, ownLimits, limits, checks}
+use Rattle.tree.specs.Calls.{Call, read, write, check, wipe, Gives, lentTo, firstLimits, ownLimits, limits, checks}
 use Rattle.tree.specs.Calls.{verdict, rooted, answerOf, settled, outcome, formatAnswer, format}
 use Rattle.tree.specs.declared.Anchor.{Anchor}
 use Rattle.tree.specs.declared.Refusal.{Refusal}
@@ -73,12 +73,21 @@ pub gives-read : (F : List ℕ → List ℕ) (a : Anchor) (card : List ℕ) (i :
     → Gives (outcome F a card (read i buffer)) Whole a card lent
 gives-read F a card i buffer lent e f = rw e (record { answered = refl; anchored = refl; left = refl; filled = f })
 
-pub gives-write : (F : List ℕ → List ℕ) (a : Anchor) (card : List ℕ) (i : ℕ) (block ranges card' lent : List ℕ)
+pub gives-write : (F : List ℕ → List ℕ) (a : Anchor) (card : List ℕ) (i : ℕ) (block ranges : List ℕ) (b : Anchor) (card' lent : List ℕ)
     → outcome F a card (write i block ranges) ≡ settled F Whole a card (write i block ranges)
+    → b ≡ rooted a (a .root .0 + a .depth)
     → card' ≡ written F (a .depth) (a .root .0) (a .root .0) card i block
     → lent ≡ encode (rangesOf (a .depth) i) ++ drop (16 * a .depth) ranges
-    → Gives (outcome F a card (write i block ranges)) Whole (rooted a (a .root .0 + a .depth)) card' lent
-gives-write F a card i block ranges card' lent e f g = rw e (record { answered = refl; anchored = refl; left = f; filled = g })
+    → Gives (outcome F a card (write i block ranges)) Whole b card' lent
+gives-write F a card i block ranges b card' lent e h f g = rw e (record { answered = refl; anchored = h; left = f; filled = g })
+
+-- a wipe within its limits is whole, and gives the card and the anchor
+pub gives-wipe : (F : List ℕ → List ℕ) (a : Anchor) (card : List ℕ) (b : Anchor) (card' : List ℕ)
+    → firstFailing (limits a card wipe) ≡ none → b ≡ rooted a (a .root .0 + a .depth)
+    → card' ≡ blanked F (a .depth) (a .root .0 + a .depth) card → Gives (outcome F a card wipe) Whole b card' []
+unfolding checks firstWrong
+gives-wipe F a card b card' e h f =
+    rw (settles F a card wipe Whole e refl) (record { answered = refl; anchored = h; left = f; filled = refl })
 
 -- Format
 

@@ -11,7 +11,7 @@ use tree::limits::Test;
 ghost use mathlib.Core.Path.{_≡_};
 ghost use mathlib.Core.List.{[]};
 ghost use Rattle.cmac.specs.Cmac.{cmacOf};
-ghost use Rattle.tree.specs.Calls.{Gives, read, write, check, outcome, format};
+ghost use Rattle.tree.specs.Calls.{Gives, read, write, check, wipe, outcome, format};
 ghost use Rattle.tree.specs.declared.Answer.the-variants.{Refused};
 
 // What a call answers that makes or moves an anchor.
@@ -37,7 +37,11 @@ pub fn format(key: [u8; 16], depth: u64, card: &mut [u8]) -> Reply
     let Test::Passed = limits::card_length(depth, card.len()) else {
         return refused(anchor, Refusal::CardLength);
     };
-    work::format(anchor, card)
+    work::blank(anchor, card);
+    Reply {
+        answer: Answer::Whole,
+        anchor: anchor,
+    }
 }
 
 // Reads a block into the buffer, where every tag on its path is right.
@@ -105,6 +109,26 @@ pub fn check(anchor: Anchor, card: &[u8]) -> Answer
         return first;
     };
     work::check(anchor, card)
+}
+
+// Empties the card under the same key: every block zero, every tag anew, with nonces that no call before it used. It looks at no byte of
+// the card. The answer has the anchor as it is then.
+pub fn wipe(anchor: Anchor, card: &mut [u8]) -> Reply
+    ensures { λ r. ⌜ Gives (outcome (cmacOf (anchor .key)) anchor (now (card .entry)) wipe)
+        (r .answer) (r .anchor) (now (card .exit)) [] ⌝ }
+{
+    let tested = limits::first(anchor, card.len());
+    let Answer::Whole = tested else {
+        return Reply {
+            answer: tested,
+            anchor: anchor,
+        };
+    };
+    let root = anchor.root;
+    let Test::Passed = limits::nonces_spent(anchor.depth, root) else {
+        return refused(anchor, Refusal::NoncesSpent);
+    };
+    work::wipe(anchor, card)
 }
 
 // A refusal, with the anchor as it was.

@@ -16,19 +16,18 @@ ghost use Prim.Native.Nat.{_+_, _^_, _<_};
 ghost use lib.ListN.{length};
 ghost use Rattle.cmac.specs.Cmac.{cmacOf};
 ghost use Rattle.tree.specs.Layout.{IsCard, label};
+ghost use Rattle.tree.specs.Card.{blanked};
 ghost use Rattle.tree.specs.Limits.{firstFailing};
-ghost use Rattle.tree.specs.Calls.{Gives, read, write, check, limits, outcome, format};
+ghost use Rattle.tree.specs.Calls.{Gives, read, write, check, wipe, limits, rooted, outcome};
 
-// Format, with the anchor that it gives.
-pub(crate) fn format(anchor: Anchor, card: &mut [u8]) -> Reply
+// Makes an empty card for the anchor that a format or a wipe gives.
+pub(crate) fn blank(anchor: Anchor, card: &mut [u8])
     requires { ⌜ IsCard (anchor .depth) (now card) ⌝ }
-    requires { ⌜ anchor .root .0 ≡ 0 ⌝ }
-    ensures { λ r. ⌜ Gives (format (cmacOf (anchor .key)) (anchor .key) (anchor .depth) (now (card .entry)))
-        (r .answer) (r .anchor) (now (card .exit)) [] ⌝ }
+    ensures { λ _. ⌜ now (card .exit) ≡ blanked (cmacOf (anchor .key)) (anchor .depth) (anchor .root .0) (now (card .entry)) ⌝ }
 {
     let depth = anchor.depth;
     let key = anchor.key;
-    let nonce = anchor.root;
+    let root = anchor.root;
     let table = cmac::table();
     let context = cmac::context_of(&table, key);
     stamp::blank(
@@ -36,13 +35,9 @@ pub(crate) fn format(anchor: Anchor, card: &mut [u8]) -> Reply
         &context.schedule,
         &context.subkeys,
         depth,
-        nonce,
+        root,
         card,
     );
-    Reply {
-        answer: Answer::Whole,
-        anchor: anchor,
-    }
 }
 
 // Read.
@@ -128,14 +123,10 @@ pub(crate) fn write(
         block,
     );
     ranges::fill(depth, index, ranges);
-    let moved = Anchor {
-        key: key,
-        depth: depth,
-        root: Nonce(root.0 + depth),
-    };
+    let written = moved(anchor);
     Reply {
         answer: Answer::Whole,
-        anchor: moved,
+        anchor: written,
     }
 }
 
@@ -157,4 +148,33 @@ pub(crate) fn check(anchor: Anchor, card: &[u8]) -> Answer
         root,
         card,
     )
+}
+
+// Wipe.
+pub(crate) fn wipe(anchor: Anchor, card: &mut [u8]) -> Reply
+    requires { ⌜ firstFailing (limits anchor (now card) wipe) ≡ none ⌝ }
+    ensures { λ r. ⌜ Gives (outcome (cmacOf (anchor .key)) anchor (now (card .entry)) wipe)
+        (r .answer) (r .anchor) (now (card .exit)) [] ⌝ }
+{
+    let wiped = moved(anchor);
+    blank(wiped, card);
+    Reply {
+        answer: Answer::Whole,
+        anchor: wiped,
+    }
+}
+
+// The anchor behind a write or a wipe: the root nonce has moved by the depth.
+fn moved(anchor: Anchor) -> Anchor
+    requires { ⌜ anchor .root .0 + anchor .depth < 2 ^ 64 ⌝ }
+    ensures { λ r. ⌜ r ≡ rooted anchor (anchor .root .0 + anchor .depth) ⌝ }
+{
+    let depth = anchor.depth;
+    let key = anchor.key;
+    let root = anchor.root;
+    Anchor {
+        key: key,
+        depth: depth,
+        root: Nonce(root.0 + depth),
+    }
 }

@@ -23,7 +23,7 @@ use Rattle.tree.proofs.LayoutLaws.{AllNodes, inner, leaf, entry-on}
 use Rattle.tree.proofs.NodeLaws.{Off, among, is-among, sibling-half, path-leaf, path-parent, path-level}
 use Rattle.tree.proofs.NodeLaws.{path-node, path-distinct, pair-parent, pair-node, child-off, twin-node}
 use Rattle.tree.proofs.LabelLaws.{Sized, labels-below, labels-sized, new-path, new-leaf, new-off, new-sized}
-use Rattle.tree.proofs.CardLaws.{stamped-keeps}
+use Rattle.tree.proofs.CardLaws.{length-stamped, stamped-append, stamped-more, stamped-keeps}
 
 -- Stores
 
@@ -85,25 +85,6 @@ module _ (n : ℕ) (card : List ℕ) (u : ℕ) (d : IsCard n card) (h : IsNode n
       ∙ sets-behind x z card o (omega (arith, entry-on n card u d h)) (ap (part card o) e ∙ q)
 
 -- Many entries
-
-module _ (F : List ℕ → List ℕ) (n : ℕ) (L : Labels) where
-  stamped-append : (us vs card : List ℕ) → stamped F n L (us ++ vs) card ≡ stamped F n L vs (stamped F n L us card)
-  unfolding stamped
-  stamped-append [] vs card = refl
-  stamped-append (u ∷ us) vs card = stamped-append us vs (stamp F n L card u)
-
-  pub stamped-length : (us card : List ℕ) → length (stamped F n L us card) ≡ length card
-  unfolding stamped
-  stamped-length [] card = refl
-  stamped-length (u ∷ us) card = stamped-length us (stamp F n L card u) ∙ simp length-sets
-
-  -- one level more
-  stamped-more : (k : ℕ) (f : ℕ → List ℕ) (card : List ℕ)
-      → stamped F n L (upTo (k + 1) f) card ≡ stamped F n L (f (k + 1)) (stamped F n L (upTo k f) card)
-  unfolding upTo
-  stamped-more k f card =
-      ap (λ (j : ℕ). stamped F n L (upTo j f) card) (add-one k) ∙ stamped-append (upTo k f) (f (suc k)) card
-      ∙ ap (λ (j : ℕ). stamped F n L (f j) (stamped F n L (upTo k f) card)) (sym (add-one k))
 
 -- a blank card: one node more
 pub blank-more : (F : List ℕ → List ℕ) (n t y : ℕ) (card c p : List ℕ) → y < 2 * 2 ^ n - 2 → p ≡ be8 t
@@ -226,7 +207,7 @@ module _ (n i : ℕ) (inside : i < 2 ^ n) (y u v : ℕ) (h : y < n) (on : u ≡ 
         ∙ ap₂ (λ (z s : List ℕ). sets c0 (offset n u) (z ++ F (form z s (u % 2)))) (u-label new b low M) pu in
         let s2 : c1 ≡ stamped F n L (upTo y (pair n i) ++ (u ∷ [])) card =
         s1 ∙ sym (stamped-append F n L (upTo y (pair n i)) (u ∷ []) card) in
-        let d1 : IsCard n c1 = same-card c1 (ap length s2 ∙ stamped-length F n L (upTo y (pair n i) ++ (u ∷ [])) card) d in
+        let d1 : IsCard n c1 = same-card c1 (ap length s2 ∙ length-stamped F n L (upTo y (pair n i) ++ (u ∷ [])) card) d in
         tag-put n c1 v d1 v-node F (L v) p (v-label c1 s2) (sized v v-node)
         ∙ ap₂ (λ (l s : List ℕ). sets l (offset n v) (L v ++ F (form (L v) s (v % 2)))) s1 pv
         ∙ ap (λ (us : List ℕ). stamped F n L us c0) (ap₂ (λ (a z : ℕ). a ∷ z ∷ []) on (twin ∙ ap sibling on))

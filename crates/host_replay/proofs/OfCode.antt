@@ -9,11 +9,12 @@ use prog.Routine.{Routine}
 use prog.Wp.{Heap}
 use ghost.Atoms.{Atoms}
 use contract.Monad.{Fun, fact}
-use Rattle.tree.specs.Calls.{read, write, check}
+use Rattle.tree.specs.Calls.{read, write, check, wipe}
 use Rattle.pat.proofs.pat_format.Reads as format-code
 use Rattle.pat.proofs.pat_read.Reads as read-code
 use Rattle.pat.proofs.pat_write.Reads as write-code
 use Rattle.pat.proofs.pat_check.Reads as check-code
+use Rattle.pat.proofs.pat_wipe.Reads as wipe-code
 use Rattle.pat.proofs.pat_write_in_place as in-place
 use Rattle.host_replay.specs.Called.{bytes, struct, Meets, Formatted}
 
@@ -56,6 +57,18 @@ pub check-ran : (κs : _) (x : _) (r : _) (e : _) → check-code.Learnt κs x r 
       lent = [];
     })
 check-ran κs x r e learnt = learnt
+
+pub wipe-ran : (κs : _) (x : _) (r : _) (e : _) → wipe-code.Learnt κs x r e
+    → Meets
+    (record {
+      given = bytes (now (x .0));
+      step = record { card = now (x .1 .0); call = wipe };
+      code = r;
+      anchor = bytes (now (e .0));
+      card = now (e .1 .0);
+      lent = [];
+    })
+wipe-ran κs x r e learnt = learnt
 
 -- The write in place is walked by hand, and so has no such statement made for its callers: here is its `ensures`, as the check reads it.
 module _ {M : Type 1} (𝓤 : URA M) (H : Heap 𝓤) (A : Atoms 𝓤) (mem : Memory → SProp 𝓤) (run : Routine → Fun 𝓤) where

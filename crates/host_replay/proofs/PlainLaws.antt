@@ -1,34 +1,38 @@
 -- Demand 3 of the functions for C in their own terms.
 use mathlib.Core.Path.{_≡_, refl, sym, ap, ap₂, subst, _∙_}
 use mathlib.Core.Bool.{Bool, true, false, cond, _&&_}
-use mathlib.Core.List.{List, [], _∷_, _++_}
+use mathlib.Core.List.{List, [], _∷_, _++_, map, map-append}
 use mathlib.Core.Logic.{inl, inr, ⊎-elim}
-use Prim.Native.Nat.{ℕ, _+_, _*_, _<_}
+use Prim.Native.Nat.{ℕ, _+_, _*_, _^_, _<_}
 use native.Mathlib.Nat.{add-mul}
 use native.Mathlib.Omega.{arith}
 use borrow.Author.Tests.{eq-eqb, ne-eqb}
 use lib.Dec.{eqb}
+use lib.ListN.{length, replicate, length-replicate}
 use Rattle.cmac.specs.Cmac.{cmacOf}
 use Rattle.tree.specs.Answer.{refusalNumber, isWhole}
-use Rattle.tree.specs.Calls.{isWrite, format}
+use Rattle.tree.specs.Calls.{Call, wipe, isWrite, renews, format}
 use Rattle.tree.specs.declared.Anchor.{Anchor}
 use Rattle.tree.specs.declared.Node.{Node}
 use Rattle.tree.specs.declared.Refusal.{Refusal}
 use Rattle.tree.specs.declared.Refusal.the-variants.{Depth, RootNonce, CardLength, BlockNumber, BlockLength, RangeLength, NoncesSpent}
 use Rattle.tree.specs.declared.Answer.{Answer}
 use Rattle.tree.specs.declared.Answer.the-variants.{Whole, Wrong, Refused}
-use Rattle.replay.specs.Array.{Told, read, write, check, Array, zeroed, moved}
-use Rattle.replay.specs.Places.{Place}
+use Rattle.replay.specs.Array
+use Rattle.replay.specs.Array.{Told, Array, zeroed, moved}
+use Rattle.replay.specs.Places.{Place, Behind}
 use Rattle.replay.specs.Run
-use Rattle.replay.specs.Run.{Step, Store, State, start, result, next, after, writes}
-use Rattle.replay.specs.Claim.{Agrees, Accepted, Agreement, Forgery}
-use Rattle.replay.proofs.PlaceLaws.{first, later, earlier, no-place, at-more, mapped, image}
-use Rattle.replay.proofs.Moves.{after-key, next-root, after-root}
+use Rattle.replay.specs.Run.{Step, Store, State, start, result, next, after, renewals}
+use Rattle.replay.specs.Claim
+use Rattle.replay.specs.Claim.{Agrees, Accepted, AcceptedWipe, known, Agreement, Forgery}
+use Rattle.replay.proofs.PlaceLaws.{first, later, earlier, last, no-place, at-more, mapped, Image, image}
+use Rattle.replay.proofs.Unforged.{write-not-wipe}
+use Rattle.replay.proofs.Moves.{moved-length, after-key, next-root, after-root}
 use Rattle.pat.specs.Host.{anchorOf, codeOf, Codes}
 use Rattle.pat.proofs.AnchorLaws.{code-whole, whole-code}
 use Rattle.host_replay.specs.Called.{Held, bytes, anchorIn, Called, steps, History, Formatted, begin, Demand3Of}
-use Rattle.host_replay.specs.Plain.{whole, leftBy, arrayBy, counted, writesBy, Shows, Each, Agreed, AllUntouched, WritesUntouched}
-use Rattle.host_replay.specs.Plain.{PlainDemand, PlainGoesOn}
+use Rattle.host_replay.specs.Plain.{whole, leftBy, arrayBy, counted, renewalsBy, Shows, Each, Agreed, AllUntouched, Unwiped}
+use Rattle.host_replay.specs.Plain.{WritesUntouched, PlainDemand, PlainGoesOn}
 use Rattle.host_replay.proofs.Theorem.{Tells, demand3-of-calls}
 
 -- Answers as one number
@@ -67,10 +71,10 @@ module _ (key : List ℕ) where
   F = cmacOf key
 
   next-left : (s : State) (r : Called) → Tells key s [] r
-      → next (cmacOf key) s (r .step) .store .left ≡ cond (whole r && isWrite (r .step .call)) (r .card) (s .store .left)
+      → next (cmacOf key) s (r .step) .store .left ≡ cond (whole r && renews (r .step .call)) (r .card) (s .store .left)
   unfolding after next
   next-left s r t =
-      sym (ap₂ (λ (b : Bool) (c : List ℕ). cond (b && isWrite (r .step .call)) c (s .store .left))
+      sym (ap₂ (λ (b : Bool) (c : List ℕ). cond (b && renews (r .step .call)) c (s .store .left))
       (code-is (result F (s .store) (r .step) .answer) (r .code) (t .coded)) (t .left))
 
   next-array : (s : State) (r : Called) → Tells key s [] r
@@ -97,19 +101,20 @@ module _ (key : List ℕ) where
   array-by (r ∷ rs) s f =
       array-by rs (next F s (r .step)) (rest s r rs f) ∙ ap (λ (a : Array). arrayBy a rs) (next-array s r (f (first r rs)))
 
-  writes-by : (rs : List Called) (s : State) → Each rs (Tells key s) → writes (cmacOf key) s (steps rs) ≡ writesBy rs
-  unfolding writes after
-  writes-by [] s f = refl
-  writes-by (r ∷ rs) s f =
-      ap₂ (λ (b : Bool) (m : ℕ). cond (b && isWrite (r .step .call)) 1 0 + m)
+  renewals-by : (rs : List Called) (s : State) → Each rs (Tells key s) → renewals (cmacOf key) s (steps rs) ≡ renewalsBy rs
+  unfolding renewals after
+  renewals-by [] s f = refl
+  renewals-by (r ∷ rs) s f =
+      ap₂ (λ (b : Bool) (m : ℕ). cond (b && renews (r .step .call)) 1 0 + m)
       (sym (code-is (result F (s .store) (r .step) .answer) (r .code) (f (first r rs) .coded)))
-      (writes-by rs (next F s (r .step)) (rest s r rs f))
+      (renewals-by rs (next F s (r .step)) (rest s r rs f))
 
 -- two definitions of one meaning
 agrees-shows : (n : ℕ) (array : Array) (card given : List ℕ) (c : Told) → Agrees n array card given c → Shows n array card given c
-agrees-shows n array card given (read i) a = a
-agrees-shows n array card given (write i block) a = tt
-agrees-shows n array card given check a = a
+agrees-shows n array card given (Array.read i) a = a
+agrees-shows n array card given (Array.write i block) a = tt
+agrees-shows n array card given Array.check a = a
+agrees-shows n array card given Array.wipe a = tt
 
 module _ (anchor card made left : List ℕ) (formatted : Formatted anchor card 0 made left) (rs : List Called)
     (ran : History (bytes made) rs) where
@@ -135,11 +140,11 @@ module _ (anchor card made left : List ℕ) (formatted : Formatted anchor card 0
   left-is : (p : Place rs) → store p .left ≡ leftBy left (p .before)
   left-is p = left-by k (p .before) s₀ (tells p) ∙ ap (λ (l : List ℕ). leftBy l (p .before)) (sym (demand .formatted))
 
-  zeroed-is : begin anchor card .store .array ≡ zeroed (anchorOf anchor .depth)
+  zeroed-is : begin anchor card .store .array ≡ zeroed (2 ^ anchorOf anchor .depth)
   unfolding start
   zeroed-is = refl
 
-  array-is : (p : Place rs) → store p .array ≡ arrayBy (zeroed (anchorOf anchor .depth)) (p .before)
+  array-is : (p : Place rs) → store p .array ≡ arrayBy (zeroed (2 ^ anchorOf anchor .depth)) (p .before)
   array-is p = array-by k (p .before) s₀ (tells p) ∙ ap (λ (a : Array). arrayBy a (p .before)) zeroed-is
 
   depth-is : (xs : List Step) → after (cmacOf (anchorOf anchor .key)) (begin anchor card) xs .store .anchor .depth ≡ anchorOf anchor .depth
@@ -155,7 +160,7 @@ module _ (anchor card made left : List ℕ) (formatted : Formatted anchor card 0
       let shows =
       agrees-shows (z .anchor .depth) (z .array) (r .step .card) (o .lent) (Run.told (r .step .call))
       (a (mapped (λ (q : Called). q .step) p) (code-whole (o .answer) (sym (t .coded) ∙ zero))) in
-      subst (λ (l : List ℕ). Shows n (arrayBy (zeroed n) (p .before)) (r .step .card) l (Run.told (r .step .call))) (sym (t .filled))
+      subst (λ (l : List ℕ). Shows n (arrayBy (zeroed (2 ^ n)) (p .before)) (r .step .card) l (Run.told (r .step .call))) (sym (t .filled))
       (subst (λ (b : Array). Shows n b (r .step .card) (o .lent) (Run.told (r .step .call))) (array-is p)
       (subst (λ (m : ℕ). Shows m (z .array) (r .step .card) (o .lent) (Run.told (r .step .call))) (depth-is (steps (p .before))) shows))
 
@@ -167,7 +172,7 @@ module _ (anchor card made left : List ℕ) (formatted : Formatted anchor card 0
   unfolding start format
   start-depth = refl
 
-  root : (p : Place rs) → anchorIn (p .item .anchor) .root .0 ≡ (writesBy (p .before) + counted (p .item)) * anchorOf anchor .depth
+  root : (p : Place rs) → anchorIn (p .item .anchor) .root .0 ≡ (renewalsBy (p .before) + counted (p .item)) * anchorOf anchor .depth
   unfolding next
   root p =
       let r = p .item in
@@ -177,10 +182,10 @@ module _ (anchor card made left : List ℕ) (formatted : Formatted anchor card 0
       let c = code-is (result (cmacOf k) (z .store) (r .step) .answer) (r .code) (t .coded) in
       ap (λ (a : Anchor). a .root .0) (t .anchored)
       ∙ next-root (cmacOf k) z (r .step)
-      ∙ sum (z .store .anchor .root .0) _ (counted r) (writesBy (p .before)) (z .store .anchor .depth)
-      (w ∙ ap₂ (λ (m d : ℕ). m + writes (cmacOf k) s₀ (steps (p .before)) * d) start-root start-depth
-      ∙ ap (λ (m : ℕ). 0 + m * n) (writes-by k (p .before) s₀ (tells p)) ∙ from-zero (writesBy (p .before) * n))
-      (ap (λ (b : Bool). cond (b && isWrite (r .step .call)) 1 0) (sym c))
+      ∙ sum (z .store .anchor .root .0) _ (counted r) (renewalsBy (p .before)) (z .store .anchor .depth)
+      (w ∙ ap₂ (λ (m d : ℕ). m + renewals (cmacOf k) s₀ (steps (p .before)) * d) start-root start-depth
+      ∙ ap (λ (m : ℕ). 0 + m * n) (renewals-by k (p .before) s₀ (tells p)) ∙ from-zero (renewalsBy (p .before) * n))
+      (ap (λ (b : Bool). cond (b && renews (r .step .call)) 1 0) (sym c))
       (depth-is (steps (p .before)))
     where
       from-zero : (m : ℕ) → 0 + m ≡ m
@@ -191,23 +196,64 @@ module _ (anchor card made left : List ℕ) (formatted : Formatted anchor card 0
       sum t m c w d p q e = rw (p, q, e) (sym (add-mul w c (anchorOf anchor .depth)))
 
   -- an accepted place of the list is a call that answered 0
-  untouched : (P : Called → Type 0) → Each rs (λ before r. r .code ≡ 0 → P r → r .step .card ≡ leftBy left before)
-      → (q : Place (steps rs))
-      → Accepted (cmacOf (anchorOf anchor .key)) (after (cmacOf (anchorOf anchor .key)) (begin anchor card) (q .before) .store) (q .item)
-      → ((r : Called) → r .step ≡ q .item → P r)
-      → q .item .card ≡ after (cmacOf (anchorOf anchor .key)) (begin anchor card) (q .before) .store .left
-  untouched P f q w holds =
+  untouched : (q : Place (steps rs))
+      → Accepted (cmacOf (anchorOf anchor .key)) (known (cmacOf (anchorOf anchor .key)) (begin anchor card) q .store) (q .item)
+      → ((i : Image (λ (c : Called). c .step) rs q) → i .place .item .code ≡ 0
+      → i .place .item .step .card ≡ leftBy left (i .place .before))
+      → q .item .card ≡ known (cmacOf (anchorOf anchor .key)) (begin anchor card) q .store .left
+  untouched q w f =
       let i = image (λ (c : Called). c .step) rs q in
       let p = i .place in
       let same = ap₂ (λ (l : List Step) (y : Step). result (cmacOf k) (after (cmacOf k) s₀ l .store) y .answer) (i .before-is)
       (i .item-is) in
       sym (ap (λ (y : Step). y .card) (i .item-is))
-      ∙ f p (demand .told p .coded ∙ ap codeOf (same ∙ w) ∙ whole-code) (holds (p .item) (i .item-is))
+      ∙ f i (demand .told p .coded ∙ ap codeOf (same ∙ w) ∙ whole-code)
       ∙ sym (left-is p)
       ∙ ap (λ (l : List Step). after (cmacOf k) s₀ l .store .left) (i .before-is)
 
+  -- and a wipe that answered 0 is an accepted one
+  wipes : (p : Place rs) → p .item .code ≡ 0 → p .item .step .call ≡ wipe
+      → AcceptedWipe (cmacOf (anchorOf anchor .key)) (store p) (p .item .step)
+  wipes p zero w = record { accepted = code-whole _ (sym (demand .told p .coded) ∙ zero); is-wipe = w }
+
+  -- behind the place that a place of the list stands for there is no more than behind that
+  unwiped : (q : Place (steps rs)) (i : Image (λ (c : Called). c .step) rs q)
+      → Claim.Unwiped (cmacOf (anchorOf anchor .key)) (begin anchor card) q → Unwiped (i .place)
+  unwiped q i none r b zero w =
+      let f : Called → Step = λ c. c .step in
+      none (mapped f r)
+      (record {
+        between = map f (b .between);
+        is = ap (map f) (b .is) ∙ map-append f (i .place .before) (i .place .item ∷ b .between)
+            ∙ ap₂ (λ (l : List Step) (y : Step). l ++ (y ∷ map f (b .between))) (i .before-is) (i .item-is);
+      })
+      (wipes r zero w)
+
   honest : AllUntouched left rs → Agreed (anchorOf anchor .depth) rs
-  honest f = agreed (demand .unforged .agreed (λ q w. untouched (λ r. Unit {0}) (λ p z u. f p z) q w (λ r e. tt)))
+  honest f =
+      agreed (demand .unforged .agreed (λ q w d.
+      untouched q w (λ i zero. f (i .place) zero (λ e. d (sym (ap (λ (y : Step). y .call) (i .item-is)) ∙ e)))))
+
+-- The array has its length always, and is empty after a wipe that answered 0.
+
+array-length : (rs : List Called) (a : Array) → length (arrayBy a rs) ≡ length a
+array-length [] a = refl
+array-length (r ∷ rs) a =
+    let c = Run.told (r .step .call) in
+    array-length rs (moved a c (whole r)) ∙ moved-length a c (whole r)
+
+array-more : (rs : List Called) (r : Called) (a : Array)
+    → arrayBy a (rs ++ (r ∷ [])) ≡ moved (arrayBy a rs) (Run.told (r .step .call)) (whole r)
+array-more [] r a = refl
+array-more (q ∷ rs) r a = array-more rs r (moved a (Run.told (q .step .call)) (whole q))
+
+emptied : (count : ℕ) (rs : List Called) (r : Called) → r .code ≡ 0 → r .step .call ≡ wipe
+    → arrayBy (zeroed count) (rs ++ (r ∷ [])) ≡ zeroed count
+unfolding zeroed moved
+emptied count rs r zero w =
+    array-more rs r (zeroed count)
+    ∙ ap₂ (λ (c : Call) (b : Bool). moved (arrayBy (zeroed count) rs) (Run.told c) b) w (eq-eqb (r .code) 0 zero)
+    ∙ ap zeroed (array-length rs (zeroed count) ∙ length-replicate count (replicate 64 0))
 
 -- the calls before one are a history
 front-ran : (h : Held) (before behind : List Called) → History h (before ++ behind) → History h before
@@ -222,9 +268,11 @@ module _ (anchor card made left : List ℕ) (formatted : Formatted anchor card 0
       let d = demand3-of-calls anchor card made left formatted rs ran in
       not-wrong _
       (d .demand .quiet (mapped (λ (c : Called). c .step) p)
-      (λ q a w.
-      untouched anchor card made left formatted (p .before) early (λ (c : Called). isWrite (c .step .call) ≡ true) f q a
-      (λ c i. ap (λ (y : Step). isWrite (y .call)) i ∙ w))
+      (λ q none a w.
+      untouched anchor card made left formatted (p .before) early q a
+      (λ i zero.
+      f (i .place) (unwiped anchor card made left formatted (p .before) early q i none) zero
+      (ap (λ (y : Step). isWrite (y .call)) (i .item-is) ∙ w)))
       (same ∙ sym (left-is anchor card made left formatted rs ran p)))
       u (sym (d .told p .coded) ∙ code)
 
@@ -239,14 +287,44 @@ module _ (anchor card made left : List ℕ) (formatted : Formatted anchor card 0
         honest = honest anchor card made left formatted rs ran;
         quiet = quiet;
         root = root anchor card made left formatted rs ran;
+        emptied = λ p zero w. emptied (2 ^ anchorOf anchor .depth) (p .before) (p .item) zero w;
       }
+
+-- Lists on untouched cards
+module _ (left : List ℕ) (rs : List Called) (r : Called) where
+  -- what is asked of a call of the longer list: no wipe that answered 0 stands behind it there
+  abbrev pub Asked : List Called → Called → Type 0
+  Asked before c =
+      ((q : Place (rs ++ (r ∷ []))) (between : List Called) → q .before ≡ before ++ (c ∷ between) → q .item .code ≡ 0
+      → q .item .step .call ≡ wipe → ⊥)
+      → c .code ≡ 0 → isWrite (c .step .call) ≡ true → c .step .card ≡ leftBy left before
+
+  writes-all : ((p : Place rs) → Asked (p .before) (p .item))
+      → (r .code ≡ 0 → isWrite (r .step .call) ≡ true → r .step .card ≡ leftBy left rs) → WritesUntouched left (rs ++ (r ∷ []))
+  writes-all f here p none =
+      at-more Asked rs r f (λ k. here) p (λ q between e zero w. none q (record { between = between; is = e }) zero w)
+
+  writes-more : WritesUntouched left rs → (r .code ≡ 0 → isWrite (r .step .call) ≡ true → r .step .card ≡ leftBy left rs)
+      → WritesUntouched left (rs ++ (r ∷ []))
+  writes-more f here =
+      writes-all (λ p none. f p (λ q b zero w. none (earlier (last rs r) q) (b .between) (b .is) zero w)) here
+
+  writes-wiped : r .code ≡ 0 → r .step .call ≡ wipe → WritesUntouched left (rs ++ (r ∷ []))
+  writes-wiped zero w =
+      writes-all (λ p none. absurd (none (last rs r) (p .behind) (p .is) zero w))
+      (λ z e. absurd (write-not-wipe (r .step .call) e w))
+
+  -- what is asked of a call of a list on untouched cards
+  abbrev pub Fair : List Called → Called → Type 0
+  Fair before c = c .code ≡ 0 → (c .step .call ≡ wipe → ⊥) → c .step .card ≡ leftBy left before
 
 pub plain-goes-on : (left : List ℕ) → PlainGoesOn left
 plain-goes-on left =
     record {
       all-none = λ p. absurd (no-place p);
-      all-more = λ rs r f h. at-more (λ before q. q .code ≡ 0 → q .step .card ≡ leftBy left before) rs r f h;
+      all-more = λ rs r f h. at-more (Fair left rs r) rs r f (λ z d. h z);
+      all-wiped = λ rs r f w. at-more (Fair left rs r) rs r f (λ z d. absurd (d w));
       writes-none = λ p. absurd (no-place p);
-      writes-more = λ rs r f h.
-          at-more (λ before q. q .code ≡ 0 → isWrite (q .step .call) ≡ true → q .step .card ≡ leftBy left before) rs r f h;
+      writes-more = λ rs r f h. writes-more left rs r f h;
+      writes-wiped = λ rs r zero w. writes-wiped left rs r zero w;
     }

@@ -11,7 +11,7 @@ use Rattle.tree.proofs.CallLaws.{outcome-key, format-in}
 use Rattle.replay.specs.Places.{Place}
 use Rattle.replay.specs.Run.{Step, State, start, result, next, after}
 use Rattle.replay.proofs.PlaceLaws.{no-place, at-places}
-use Rattle.replay.proofs.Theorem.{demand3, unforged}
+use Rattle.replay.proofs.Theorem.{demand3, unforged, afresh}
 use Rattle.pat.specs.Host.{anchorBytes, anchorOf, Codes}
 use Rattle.pat.specs.RoundTrip.{Stands}
 use Rattle.pat.proofs.AnchorLaws.{call-stands, call-codes, format-whole, format-left, format-stands}
@@ -115,5 +115,6 @@ module _ (anchor card made left : List ℕ) (formatted : Formatted anchor card 0
         formatted = left-is;
         demand = demand3 k n (is-card .deep) (is-card .shallow) card (is-card .full) (steps rs);
         unforged = unforged k n (is-card .deep) (is-card .shallow) card (is-card .full) (steps rs);
+        afresh = afresh k n (is-card .deep) (is-card .shallow) card (is-card .full) (steps rs);
         told = follows k rs (begin anchor card) keyed (bytes made) (begun .long) (begun .is) ran;
       }

@@ -3,12 +3,12 @@ use mathlib.Core.Path.{_≡_}
 use mathlib.Core.List.{List, [], _∷_, map}
 use Prim.Native.Nat.{ℕ}
 use Rattle.cmac.specs.Cmac.{cmacOf}
-use Rattle.tree.specs.Calls.{outcome}
+use Rattle.tree.specs.Calls.{wipe, outcome}
 use Rattle.tree.specs.declared.Anchor.{Anchor}
 use Rattle.replay.specs.Places.{Place}
 use Rattle.replay.specs.Run.{Step, State, start, result, after}
-use Rattle.replay.specs.Claim.{Demand3}
-use Rattle.replay.specs.Tagged.{Unforged}
+use Rattle.replay.specs.Claim.{Accepted, known, Demand3}
+use Rattle.replay.specs.Tagged.{Unforged, Afresh}
 use Rattle.pat.specs.Host.{anchorOf, hostCall, hostFormat, Hosts, Codes}
 use Rattle.pat.specs.RoundTrip.{Stands}
 
@@ -35,7 +35,7 @@ pub record Called : Type 0 where
 abbrev pub steps : List Called → List Step
 steps rs = map (λ (r : Called). r .step) rs
 
--- what the contract says: that of pat_read, pat_write and pat_check on bytes, and that of pat_write_in_place on a struct
+-- what the contract says: that of pat_read, pat_write, pat_check and pat_wipe on bytes, and that of pat_write_in_place on a struct
 abbrev pub Says : Held → Held → Step → ℕ → List ℕ → List ℕ → Type 0
 Says (bytes s) (bytes e) x code card lent = Hosts (hostCall s (x .card) (x .call)) code e card lent
 Says (bytes s) (struct b) x code card lent = ⊥
@@ -86,13 +86,17 @@ pub record Runs (h : Held) (ts : List Turn) : Type 0 where
 abbrev pub begin : List ℕ → List ℕ → State
 begin anchor card = start (cmacOf (anchorOf anchor .key)) (anchorOf anchor .key) (anchorOf anchor .depth) card
 
--- Of the calls that ran after an accepted pat_format: demand 3 holds of their list, what is tagged is as stated, and each call answered
--- and left what the list has at its place.
+-- Of the calls that ran after an accepted pat_format: demand 3 holds of their list, what is tagged is as stated, a wipe stands where the
+-- format did, and each call answered and left what the list has at its place.
 pub record Demand3Of (anchor card made left : List ℕ) (rs : List Called) : Type 0 where
   pub begun : Stands made (begin anchor card .store .anchor)
   pub formatted : left ≡ begin anchor card .store .left
   pub demand : Demand3 (cmacOf (anchorOf anchor .key)) (begin anchor card) (steps rs)
   pub unforged : Unforged (cmacOf (anchorOf anchor .key)) (begin anchor card) (anchorOf anchor .depth) (steps rs)
+  pub afresh : (p : Place (steps rs))
+      → Accepted (cmacOf (anchorOf anchor .key)) (known (cmacOf (anchorOf anchor .key)) (begin anchor card) p .store) (p .item)
+      → p .item .call ≡ wipe
+      → Afresh (cmacOf (anchorOf anchor .key)) (begin anchor card) (anchorOf anchor .depth) p
   pub told : (p : Place rs)
       → Codes (result (cmacOf (anchorOf anchor .key)) (after (cmacOf (anchorOf anchor .key)) (begin anchor card) (steps (p .before)) .store)
       (p .item .step))

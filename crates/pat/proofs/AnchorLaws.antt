@@ -13,15 +13,15 @@ use Rattle.words.proofs.Cases.{equal-or-not}
 use Rattle.cmac.specs.Cmac.{cmacOf}
 use Rattle.tree.specs.Numbers.{be8}
 use Rattle.tree.specs.Answer.{refusalNumber, isWhole}
-use Rattle.tree.specs.Calls.{Call, read, write, check, lentTo, isWrite, rooted, Outcome, answerOf, settled, outcome, formatAnswer}
-use Rattle.tree.specs.Calls.{formatCard, format}
+use Rattle.tree.specs.Calls.{Call, read, write, check, wipe, lentTo, renews, rooted, Outcome, answerOf, settled, outcome}
+use Rattle.tree.specs.Calls.{formatAnswer, formatCard, format}
 use Rattle.tree.specs.declared.Anchor.{Anchor}
 use Rattle.tree.specs.declared.Refusal.{Refusal}
 use Rattle.tree.specs.declared.Refusal.the-variants.{Depth, RootNonce, CardLength, BlockNumber, BlockLength, RangeLength, NoncesSpent}
 use Rattle.tree.specs.declared.Answer.{Answer}
 use Rattle.tree.specs.declared.Answer.the-variants.{Whole, Wrong, Refused}
 use Rattle.tree.proofs.ByteLaws.{length-be}
-use Rattle.tree.proofs.CallLaws.{accepted}
+use Rattle.tree.proofs.CallLaws.{accepted, settled-answer}
 use Rattle.pat.specs.Host.{anchorBytes, refusedLength, number, anchorOf, codeOf, Host, hosted, measured, hostCall, hostFormat}
 use Rattle.pat.specs.Host.{Hosts, Codes}
 use Rattle.pat.specs.RoundTrip.{Stands, RoundTrip}
@@ -101,12 +101,9 @@ unfolding outcome
 outcome-leaves F a card c = go (answerOf F a card c)
   where
     go : (x : Answer) → Leaves card (lentTo c) (settled F x a card c)
-    go Whole = record { card-kept = λ d. absurd (d (whole c)); lent-kept = λ d. absurd (d (whole c)) }
-      where
-        whole : (c : Call) → settled F Whole a card c .answer ≡ Whole
-        whole (read i buffer) = refl
-        whole (write i block ranges) = refl
-        whole check = refl
+    go Whole =
+        let whole = settled-answer F a card c Whole in
+        record { card-kept = λ d. absurd (d whole); lent-kept = λ d. absurd (d whole) }
     go (Wrong u) = record { card-kept = λ d. refl; lent-kept = λ d. refl }
     go (Refused r) = record { card-kept = λ d. refl; lent-kept = λ d. refl }
 
@@ -150,7 +147,7 @@ call-refused : (s card : List ℕ) (c : Call) (code : ℕ) (e left lent : List �
 unfolding hostCall
 call-refused s card c code e left lent g d =
     let F = cmacOf (anchorOf s .key) in
-    measured-refused s card (lentTo c) (isWrite c) (outcome F (anchorOf s) card c)
+    measured-refused s card (lentTo c) (renews c) (outcome F (anchorOf s) card c)
     (outcome-leaves F (anchorOf s) card c) code e left lent g d
 
 format-refused : (s card : List ℕ) (code : ℕ) (e left : List ℕ) → Hosts (hostFormat s card) code e left [] → (code ≡ 0 → ⊥)
@@ -169,20 +166,24 @@ module _ (F : List ℕ → List ℕ) (s : List ℕ) (long : length s ≡ anchorB
   kept = record { long = long; is = refl }
 
   settled-stands : (c : Call) (x : Answer) → answerOf F (anchorOf s) card c ≡ x
-      → Stands (hosted (isWrite c) s (settled F x (anchorOf s) card c) .anchor) (settled F x (anchorOf s) card c .anchor)
+      → Stands (hosted (renews c) s (settled F x (anchorOf s) card c) .anchor) (settled F x (anchorOf s) card c .anchor)
   settled-stands (read i buffer) Whole e = kept
   settled-stands (read i buffer) (Wrong u) e = kept
   settled-stands (read i buffer) (Refused r) e = kept
   settled-stands check Whole e = kept
   settled-stands check (Wrong u) e = kept
   settled-stands check (Refused r) e = kept
+  settled-stands wipe (Wrong u) e = kept
+  settled-stands wipe (Refused r) e = kept
+  settled-stands wipe Whole e =
+      put-stands s long (anchorOf s .root .0 + anchorOf s .depth) (accepted F (anchorOf s) card wipe e .limits-passed .unspent)
   settled-stands (write i block ranges) (Wrong u) e = kept
   settled-stands (write i block ranges) (Refused r) e = kept
   settled-stands (write i block ranges) Whole e =
       put-stands s long (anchorOf s .root .0 + anchorOf s .depth)
       (accepted F (anchorOf s) card (write i block ranges) e .limits-passed .unspent)
 
-  hosted-stands : (c : Call) → Stands (hosted (isWrite c) s (outcome F (anchorOf s) card c) .anchor) (outcome F (anchorOf s) card c .anchor)
+  hosted-stands : (c : Call) → Stands (hosted (renews c) s (outcome F (anchorOf s) card c) .anchor) (outcome F (anchorOf s) card c .anchor)
   unfolding outcome
   hosted-stands c = settled-stands c (answerOf F (anchorOf s) card c) refl
 
@@ -191,7 +192,7 @@ module _ (s : List ℕ) (long : length s ≡ anchorBytes) (card : List ℕ) (c :
   abbrev o : Outcome
   o = outcome (cmacOf (anchorOf s .key)) (anchorOf s) card c
 
-  told : Hosts (hosted (isWrite c) s (outcome (cmacOf (anchorOf s .key)) (anchorOf s) card c)) code e left lent
+  told : Hosts (hosted (renews c) s (outcome (cmacOf (anchorOf s .key)) (anchorOf s) card c)) code e left lent
   told = subst (λ (h : Host). Hosts h code e left lent) (host-call s card (anchorOf s) refl long c) g
 
   -- the round trip, and the outcome

@@ -10,7 +10,7 @@ use lib.ListN.{length, take, length-append}
 use Rattle.cmac.specs.Cmac.{cmacOf}
 use Rattle.tree.specs.Numbers.{be, be8}
 use Rattle.tree.specs.Answer.{isWhole}
-use Rattle.tree.specs.Calls.{Call, lentTo, isWrite, Outcome, Gives, outcome, format}
+use Rattle.tree.specs.Calls.{Call, lentTo, renews, Outcome, Gives, outcome, format}
 use Rattle.tree.specs.declared.Anchor.{Anchor}
 use Rattle.tree.specs.declared.Answer.{Answer}
 use Rattle.tree.specs.declared.Answer.the-variants.{Whole}
@@ -73,11 +73,11 @@ module _ (anchor : List ℕ) (o : Outcome) (x : Answer) (b : Anchor) (card lent 
 -- Calls
 
 module _ (anchor card : List ℕ) (a : Anchor) (is : a ≡ anchorOf anchor) (long : length anchor ≡ anchorBytes) where
-  pub host-call : (c : Call) → hostCall anchor card c ≡ hosted (isWrite c) anchor (outcome (cmacOf (a .key)) a card c)
+  pub host-call : (c : Call) → hostCall anchor card c ≡ hosted (renews c) anchor (outcome (cmacOf (a .key)) a card c)
   unfolding hostCall
   host-call c =
       measured-in anchor card (lentTo c) _ long
-      ∙ ap (λ (b : Anchor). hosted (isWrite c) anchor (outcome (cmacOf (b .key)) b card c)) (sym is)
+      ∙ ap (λ (b : Anchor). hosted (renews c) anchor (outcome (cmacOf (b .key)) b card c)) (sym is)
 
   pub host-format : hostFormat anchor card ≡ hosted true anchor (format (cmacOf (a .key)) (a .key) (a .depth) card)
   unfolding hostFormat

@@ -9,7 +9,7 @@ use Rattle.words.specs.Bytes.{part}
 use Rattle.cmac.specs.Cmac.{cmacOf}
 use Rattle.tree.specs.Numbers.{be8}
 use Rattle.tree.specs.Answer.{numberOf, nodeOf, isWhole}
-use Rattle.tree.specs.Calls.{Call, lentTo, isWrite, Outcome, outcome, format}
+use Rattle.tree.specs.Calls.{Call, lentTo, renews, Outcome, outcome, format}
 use Rattle.tree.specs.declared.Anchor.{Anchor}
 use Rattle.tree.specs.declared.Answer.{Answer}
 
@@ -60,7 +60,7 @@ measured anchor card lent h =
 unfoldable pub hostCall : List ℕ → List ℕ → Call → Host
 hostCall anchor card c =
     let a = anchorOf anchor in
-    measured anchor card (lentTo c) (hosted (isWrite c) anchor (outcome (cmacOf (a .key)) a card c))
+    measured anchor card (lentTo c) (hosted (renews c) anchor (outcome (cmacOf (a .key)) a card c))
 
 -- format takes the key and the depth from the anchor's bytes
 unfoldable pub hostFormat : List ℕ → List ℕ → Host

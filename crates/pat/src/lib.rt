@@ -1,6 +1,6 @@
-// The calls for C, as a static library: format, read, write, check, and the write on an anchor in its place. A slice passes as a pointer
-// and a length. The anchor is 32 bytes: key, depth and root nonce, the numbers in eight bytes each, big-endian; the write in place has it
-// as a struct. The answer is the refusal's number plus 256 times the node, 0 when accepted.
+// The calls for C, as a static library: format, read, write, check, wipe, and the write on an anchor in its place. A slice passes as a
+// pointer and a length. The anchor is 32 bytes: key, depth and root nonce, the numbers in eight bytes each, big-endian; the write in place
+// has it as a struct. The answer is the refusal's number plus 256 times the node, 0 when accepted.
 mod anchor;
 mod code;
 mod in_place;
@@ -10,7 +10,7 @@ use tree::Answer;
 use tree::BlockIndex;
 ghost use mathlib.Core.List.{[]};
 ghost use Rattle.cmac.specs.Cmac.{cmacOf};
-ghost use Rattle.tree.specs.Calls.{read, write, check, outcome};
+ghost use Rattle.tree.specs.Calls.{read, write, check, wipe, outcome};
 ghost use Rattle.pat.specs.Host.{Hosts, hostCall, hostFormat, Codes};
 
 // How long an anchor is, and what a call answers to one of another length.
@@ -88,6 +88,25 @@ pub extern "C" fn pat_check(anchor: &[u8], card: &[u8]) -> u64
     }
     let given = anchor::of(anchor);
     code::of(calls::check(given, card))
+}
+
+// Empties the card under the same key, and puts the new root nonce into the anchor.
+#[no_mangle]
+pub extern "C" fn pat_wipe(anchor: &mut [u8], card: &mut [u8]) -> u64
+    ensures { λ r. ⌜ Hosts (hostCall (now (anchor .entry)) (now (card .entry)) wipe) r (now (anchor .exit)) (now (card .exit)) [] ⌝ }
+{
+    if anchor.len() != ANCHOR_BYTES {
+        return REFUSED_LENGTH;
+    }
+    let given = anchor::of(anchor);
+    let reply = calls::wipe(given, card);
+    let answer = reply.answer;
+    let Answer::Whole = answer else {
+        return code::of(answer);
+    };
+    let wiped = reply.anchor;
+    anchor::put_root(anchor, wiped.root);
+    0
 }
 
 // The write for boot code, which has the anchor as a struct in memory of its own: accepted, it moves the anchor in its place.

@@ -3,13 +3,13 @@ use mathlib.Core.Path.{_≡_, refl, sym, ap, subst, _∙_}
 use mathlib.Core.Bool.{Bool, true, false}
 use mathlib.Core.List.{List, [], _∷_, List·Memᴰ, List·Memᴰ·head, List·Memᴰ·tail, List·Memᴰ·cases-cons, List·Memᴰ·not-nil}
 use mathlib.Core.Logic.{_⊎_, inl, inr, ⊎-elim}
-use Prim.Native.Nat.{ℕ, suc}
+use Prim.Native.Nat.{ℕ}
 use native.Mathlib.Omega.{arith}
 use lib.ListN.{length}
 use Rattle.words.specs.Bytes.{same}
 use Rattle.words.proofs.Same.{same-is, same-refl}
 use Rattle.tree.specs.Nodes.{pathNode}
-use Rattle.tree.specs.Calls.{Call, read, write, check, checks, Outcome, answerOf, done}
+use Rattle.tree.specs.Calls.{Call, read, write, check, wipe, checks, Outcome, answerOf, done}
 use Rattle.tree.specs.declared.Answer.{Answer}
 use Rattle.tree.specs.declared.Answer.the-variants.{Whole, Wrong, Refused}
 use Rattle.tree.proofs.LimitLaws.{Passes}
@@ -18,8 +18,9 @@ use Rattle.replay.specs.Run.{Step, told, State, next, after}
 use Rattle.replay.specs.Claim.{Agrees, seen, ChecksTagged, Accepted, AgreesHere, Forged, Agreement, Forgery}
 use Rattle.replay.proofs.PlaceLaws.{first, later, no-place}
 use Rattle.replay.proofs.Along.{everywhere}
-use Rattle.replay.proofs.Safe.{Backs, read-same, check-same, write-backs}
-use Rattle.replay.proofs.Moves.{Move, still, wrote-block, move}
+use Rattle.replay.proofs.Safe.{read-same, check-same, write-backs}
+use Rattle.replay.proofs.Moves.{Move, still, wrote-block, wiped-card, move}
+use Rattle.replay.proofs.Steady.{Safe, safe-steady, wipe-safe}
 
 -- a message is among others or not
 among-or-not : (m : List ℕ) (M : List (List ℕ)) → List·Memᴰ m M ⊎ (List·Memᴰ m M → ⊥)
@@ -56,9 +57,6 @@ all-or-stray f M (w ∷ us) = go (among-or-not (f w) M) (all-or-stray f M us)
         ⊎-elim (λ (e : u ≡ w). subst (λ (v : ℕ). List·Memᴰ (f v) M) (sym e) a) (λ (k : List·Memᴰ u us). b u k) (List·Memᴰ·cases-cons m))
 
 module _ (F : List ℕ → List ℕ) (F16 : (m : List ℕ) → length (F m) ≡ 16) where
-  abbrev pub Safe : State → Type 0
-  Safe s = Backs (s .store .anchor .depth) (suc (s .store .anchor .root .0)) (s .tagged) (s .store .anchor .root .0) (s .store .array)
-
   -- One call
 
   -- an accepted call checked tagged messages alone, or it forged
@@ -96,6 +94,7 @@ module _ (F : List ℕ → List ℕ) (F16 : (m : List ℕ) → length (F m) ≡ 
         read-same safe card (p .sound .full) i (p .inside) (λ y h l. all (pathNode n i y) (read-checks n i buffer (p .inside) y h l))
         (p .sound .deep)
     shows (write i block ranges) p all = tt
+    shows wipe p all = tt
     shows check p all = check-same safe card (p .full) (λ w h. all w (check-checks (s .store .anchor .depth) w h)) (p .deep)
 
     stays : (c : Call) → (answerOf F (s .store .anchor) card c ≡ Whole → ChecksTagged s (record { card = card; call = c }))
@@ -108,6 +107,7 @@ module _ (F : List ℕ → List ℕ) (F16 : (m : List ℕ) → length (F m) ≡ 
         subst Safe (sym q)
         (write-backs F F16 n (ok .sound .deep) t t card (ok .sound .full) i (ok .inside) block (ok .long) safe (ok .unspent)
         (λ w m d. all e w (write-checks n i block ranges (ok .inside) (ok .sound .deep) w m d)))
+    stays c all (wiped-card e q) = subst Safe (sym q) (wipe-safe F F16 s card (safe-steady s safe) e)
 
   -- where all that it checked was tagged, a call agrees with the array
   pub agrees-tagged : (s : State) → Safe s → (x : Step) → (Accepted F (s .store) x → ChecksTagged s x) → AgreesHere F s x

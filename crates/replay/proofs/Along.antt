@@ -1,11 +1,16 @@
 -- What is known along a list of calls, and claims of every call of it.
-use mathlib.Core.Path.{_≡_, refl}
+use mathlib.Core.Path.{_≡_, refl, subst}
 use mathlib.Core.List.{List, [], _∷_, _++_}
+use mathlib.Core.Logic.{_⊎_, inl, inr, ⊎-elim}
 use Prim.Native.Nat.{ℕ}
+use native.Mathlib.Omega.{arith}
+use Rattle.tree.specs.Calls.{Call, read, write, check, wipe}
+use Rattle.tree.specs.declared.Answer.{Answer}
+use Rattle.tree.specs.declared.Answer.the-variants.{Whole, Wrong, Refused}
 use Rattle.replay.specs.Places.{Place}
-use Rattle.replay.specs.Run.{Step, State, next, after}
-use Rattle.replay.specs.Claim.{known, Everywhere}
-use Rattle.replay.proofs.PlaceLaws.{first, later, earlier, at-places}
+use Rattle.replay.specs.Run.{Step, Store, State, result, next, after}
+use Rattle.replay.specs.Claim.{AcceptedWipe, known, Everywhere, Unwiped}
+use Rattle.replay.proofs.PlaceLaws.{first, later, earlier, rest, no-place, at-places}
 
 module _ (F : List ℕ → List ℕ) where
   pub after-append : (xs ys : List Step) (s : State) → after F s (xs ++ ys) ≡ after F (after F s xs) ys
@@ -31,10 +36,88 @@ module _ (F : List ℕ → List ℕ) where
     pub everywhere-before : (s : State) {xs : List Step} (p : Place xs) → Everywhere F s xs P → Everywhere F s (p .before) P
     everywhere-before s p f q = f (earlier p q)
 
-  -- What a call that P holds of keeps is kept by a list on which P holds everywhere.
-  pub kept-along : (P : State → Step → Type 0) (Q : State → Type 0) → ((s : State) (x : Step) → Q s → P s x → Q (next F s x))
-      → (xs : List Step) (s : State) → Q s → Everywhere F s xs P → Q (after F s xs)
+  -- Since the last accepted wipe
+
+  wipe-or-not : (c : Call) → (c ≡ wipe) ⊎ (c ≡ wipe → ⊥)
+  wipe-or-not (read i buffer) = inr (λ e. let z : _≡_ {A = ℕ} 0 1 = cc in omega arith)
+  wipe-or-not (write i block ranges) = inr (λ e. let z : _≡_ {A = ℕ} 0 1 = cc in omega arith)
+  wipe-or-not check = inr (λ e. let z : _≡_ {A = ℕ} 0 1 = cc in omega arith)
+  wipe-or-not wipe = inl refl
+
+  wipes-or-not : (s : Store) (x : Step) → AcceptedWipe F s x ⊎ (AcceptedWipe F s x → ⊥)
+  wipes-or-not s x = go (result F s x .answer) refl (wipe-or-not (x .call))
+    where
+      refused : (o : Answer) → result F s x .answer ≡ o → (o ≡ Whole → ⊥) → AcceptedWipe F s x ⊎ (AcceptedWipe F s x → ⊥)
+      refused o e d = inr (λ w. d (subst (λ (a : Answer). a ≡ Whole) e (w .accepted)))
+
+      go : (o : Answer) → result F s x .answer ≡ o → (x .call ≡ wipe) ⊎ (x .call ≡ wipe → ⊥)
+          → AcceptedWipe F s x ⊎ (AcceptedWipe F s x → ⊥)
+      go Whole e (inl i) = inl (record { accepted = e; is-wipe = i })
+      go Whole e (inr d) = inr (λ w. d (w .is-wipe))
+      go (Wrong u) e o = refused (Wrong u) e (λ p. let z : _≡_ {A = ℕ} 0 1 = cc in omega arith)
+      go (Refused r) e o = refused (Refused r) e (λ p. let z : _≡_ {A = ℕ} 0 1 = cc in omega arith)
+
+  -- a list has an accepted wipe
+  pub record Wiped (s : State) (xs : List Step) : Type 0 where
+    pub place : Place xs
+    pub wipes : AcceptedWipe F (known F s place .store) (place .item)
+
+  -- it is the first call, or among the others
+  wiped-where : (s : State) (x : Step) (xs : List Step) → Wiped s (x ∷ xs) → AcceptedWipe F (s .store) x ⊎ Wiped (next F s x) xs
   unfolding after
-  kept-along P Q step [] s q f = q
-  kept-along P Q step (x ∷ xs) s q f =
-      kept-along P Q step xs (next F s x) (step s x q (everywhere-first P s x xs f)) (everywhere-later P s x xs f)
+  wiped-where s x xs w =
+      at-places (λ before y. AcceptedWipe F (after F s before .store) y → AcceptedWipe F (s .store) x ⊎ Wiped (next F s x) xs) x xs
+      (λ k. inl k) (λ p k. inr (record { place = p; wipes = k })) (w .place) (w .wipes)
+
+  wiped-or-not : (xs : List Step) (s : State) → Wiped s xs ⊎ (Wiped s xs → ⊥)
+  unfolding after
+  wiped-or-not [] s = inr (λ w. no-place (w .place))
+  wiped-or-not (x ∷ xs) s = go (wipes-or-not (s .store) x) (wiped-or-not xs (next F s x))
+    where
+      go : AcceptedWipe F (s .store) x ⊎ (AcceptedWipe F (s .store) x → ⊥) → Wiped (next F s x) xs ⊎ (Wiped (next F s x) xs → ⊥)
+          → Wiped s (x ∷ xs) ⊎ (Wiped s (x ∷ xs) → ⊥)
+      go (inl k) r = inl (record { place = first x xs; wipes = k })
+      go (inr d) (inl w) = inl (record { place = later x (w .place); wipes = w .wipes })
+      go (inr d) (inr e) = inr (λ w. ⊎-elim d e (wiped-where s x xs w))
+
+  module _ (P : State → Step → Type 0) where
+    abbrev pub Since : State → List Step → Type 0
+    Since s xs = (p : Place xs) → Unwiped F s p → P (known F s p) (p .item)
+
+    since-first : (s : State) (x : Step) (xs : List Step) → Since s (x ∷ xs) → (Wiped (next F s x) xs → ⊥) → P s x
+    unfolding after
+    since-first s x xs f none =
+        f (first x xs) (λ q b w.
+        none (record {
+          place = rest x xs (b .between) q (b .is);
+          wipes = subst (λ (l : List Step). AcceptedWipe F (after F s l .store) (q .item)) (b .is) w;
+        }))
+
+    since-later : (s : State) (x : Step) (xs : List Step) → Since s (x ∷ xs) → Since (next F s x) xs
+    unfolding after
+    since-later s x xs f p none =
+        f (later x p) (λ q b w.
+        none (rest x xs (p .before ++ (p .item ∷ b .between)) q (b .is)) (record { between = b .between; is = refl })
+        (subst (λ (l : List Step). AcceptedWipe F (after F s l .store) (q .item)) (b .is) w))
+
+    -- What an accepted wipe makes of any state that is R, and what every call that P holds of keeps, holds after a list on which P holds
+    -- since the last accepted wipe, if it held before.
+    pub kept-since : (R Q : State → Type 0) → ((s : State) (x : Step) → R s → R (next F s x))
+        → ((s : State) (x : Step) → R s → AcceptedWipe F (s .store) x → Q (next F s x))
+        → ((s : State) (x : Step) → Q s → P s x → Q (next F s x))
+        → (xs : List Step) (s : State) → R s → Q s ⊎ Wiped s xs → Since s xs → Q (after F s xs)
+    unfolding after
+    kept-since R Q steady makes keeps [] s r (inl q) f = q
+    kept-since R Q steady makes keeps [] s r (inr w) f = absurd (no-place (w .place))
+    kept-since R Q steady makes keeps (x ∷ xs) s r o f =
+        kept-since R Q steady makes keeps xs (next F s x) (steady s x r) (go (wiped-or-not xs (next F s x))) (since-later s x xs f)
+      where
+        now : (Wiped (next F s x) xs → ⊥) → Q s ⊎ Wiped s (x ∷ xs) → Q (next F s x)
+        now none (inl q) = keeps s x q (since-first s x xs f none)
+        now none (inr w) =
+            ⊎-elim (λ (k : AcceptedWipe F (s .store) x). makes s x r k) (λ (k : Wiped (next F s x) xs). absurd (none k))
+            (wiped-where s x xs w)
+
+        go : Wiped (next F s x) xs ⊎ (Wiped (next F s x) xs → ⊥) → Q (next F s x) ⊎ Wiped (next F s x) xs
+        go (inl w) = inr w
+        go (inr none) = inl (now none o)

@@ -1,8 +1,8 @@
 -- Which labels the tagged messages vouch for. Neither card nor depth is known here: only which nodes there are, how long their labels
 -- are, and how a message is formed of a node's label, its parent's label and its side.
 use mathlib.Core.Path.{_≡_, sym, ap, _∙_}
-use mathlib.Core.List.{List, [], _++_, List·Memᴰ, List·Memᴰ·append-cases, List·Memᴰ·not-nil}
-use mathlib.Core.Logic.{_⊎_, inl, inr, ⊎-elim}
+use mathlib.Core.List.{List, List·Memᴰ}
+use mathlib.Core.Logic.{_⊎_, inl, inr}
 use Prim.Native.Nat.{ℕ, _/_, _%_, _^_, _<_, _≤_}
 use native.Mathlib.Omega.{arith}
 use lib.ListN.{length}
@@ -22,14 +22,23 @@ module _ (T : Frame) where
   abbrev pub said : Labels → ℕ → List ℕ
   said I v = T .form (I v) (I (v / 2)) (v % 2)
 
-  -- What m vouches for. Read as the message of a node whose parent has its label of I, it gives that node its label of I; read as
-  -- the message of a node whose parent has a nonce, that nonce is below H.
+  -- read as the message of a node whose parent has a nonce, m has one below H
+  abbrev pub Below : ℕ → List ℕ → Type 0
+  Below H m = (v : ℕ) (x : List ℕ) (s : ℕ) → T .Node v → length x ≡ T .size v → s < 256 ^ 8 → m ≡ T .form x (be8 s) (v % 2) → s < H
+
+  abbrev pub AllBelow : ℕ → List (List ℕ) → Type 0
+  AllBelow H M = (m : List ℕ) → List·Memᴰ m M → Below H m
+
+  -- What m vouches for: read as the message of a node whose parent has its label of I, it gives that node its label of I.
   pub record Vouches (H : ℕ) (I : Labels) (m : List ℕ) : Type 0 where
     pub fits : (v : ℕ) (x : List ℕ) → T .Node v → length x ≡ T .size v → m ≡ T .form x (I (v / 2)) (v % 2) → x ≡ I v
-    pub below : (v : ℕ) (x : List ℕ) (s : ℕ) → T .Node v → length x ≡ T .size v → s < 256 ^ 8 → m ≡ T .form x (be8 s) (v % 2) → s < H
+    pub below : Below H m
 
   abbrev pub AllVouch : ℕ → Labels → List (List ℕ) → Type 0
   AllVouch H I M = (m : List ℕ) → List·Memᴰ m M → Vouches H I m
+
+  pub all-below : {H : ℕ} {I : Labels} {M : List (List ℕ)} → AllVouch H I M → AllBelow H M
+  all-below f m h = f m h .below
 
   -- the parent of v has a nonce from G up to H
   pub record Nonced (G H : ℕ) (I : Labels) (v : ℕ) : Type 0 where
@@ -53,20 +62,9 @@ module _ (T : Frame) where
       → L (v / 2) ≡ I (v / 2) → L v ≡ I v
   down L v h node sized parent = h .fits v (L v) node sized (ap (λ (p : List ℕ). T .form (L v) p (v % 2)) parent)
 
-  pub none-vouch : (I : Labels) → AllVouch 0 I []
-  none-vouch I m h = absurd (List·Memᴰ·not-nil h)
-
-  pub both-vouch : {H : ℕ} {I : Labels} (N M : List (List ℕ)) → AllVouch H I N → AllVouch H I M → AllVouch H I (N ++ M)
-  both-vouch {H} {I} N M f g m h =
-      ⊎-elim (λ (p : List·Memᴰ m N). f m p) (λ (q : List·Memᴰ m M). g m q) (List·Memᴰ·append-cases N h)
-
   -- nonces may be used that no message had
-  pub raise : {G H : ℕ} {I : Labels} {m : List ℕ} → G ≤ H → Vouches G I m → Vouches H I m
-  raise {G} g h =
-      record {
-        fits = h .fits;
-        below = λ v x s node sized small e. let l : s < G = h .below v x s node sized small e in omega arith;
-      }
+  pub raise : {G H : ℕ} {m : List ℕ} → G ≤ H → Below G m → Below H m
+  raise {G} g h v x s node sized small e = let l : s < G = h v x s node sized small e in omega arith
 
   -- a node's message, read with another parent's nonce, has the same one
   same-nonce : {G H : ℕ} {J : Labels} {m : List ℕ} (k : Says G H J m) → H ≤ 256 ^ 8 → (x : List ℕ) (s side : ℕ) → s < 256 ^ 8
@@ -89,9 +87,15 @@ module _ (T : Frame) where
       (e ∙ ap (λ (p : List ℕ). T .form x p (v % 2)) (o .is)) in
       omega (arith, o .high, f .low)
 
-  says-below : {G H : ℕ} {J : Labels} {m : List ℕ} → Says G H J m → H ≤ 256 ^ 8 → (v : ℕ) (x : List ℕ) (s : ℕ) → s < 256 ^ 8
-      → m ≡ T .form x (be8 s) (v % 2) → s < H
-  says-below {H = H} k top v x s small e = let q = same-nonce k top x s (v % 2) small e in omega (arith, k .fresh .high)
+  pub says-below : {G H : ℕ} {J : Labels} {m : List ℕ} → Says G H J m → H ≤ 256 ^ 8 → Below H m
+  says-below k top v x s node sized small e = let q = same-nonce k top x s (v % 2) small e in omega (arith, k .fresh .high)
+
+  -- under a parent with a fresh nonce an older message says nothing
+  stale : {G H : ℕ} {J : Labels} {m : List ℕ} → Below G m → H ≤ 256 ^ 8 → (v : ℕ) (x : List ℕ) → T .Node v → length x ≡ T .size v
+      → Nonced G H J v → m ≡ T .form x (J (v / 2)) (v % 2) → ⊥
+  stale h top v x node sized f e =
+      let l = h v x (f .nonce) node sized (omega (arith, f .high, top)) (e ∙ ap (λ (p : List ℕ). T .form x p (v % 2)) (f .is)) in
+      omega (arith, f .low)
 
   -- v and its parent keep their labels
   pub record Keeps (H : ℕ) (I J : Labels) (v : ℕ) : Type 0 where
@@ -111,26 +115,26 @@ module _ (T : Frame) where
 
   module _ {G H : ℕ} {I J : Labels} (ev : Event G H I J) where
     -- an older message vouches still
-    event-old : {m : List ℕ} → Vouches G I m → Vouches H J m
-    event-old {m} h = record { fits = λ v x node sized e. go v x node sized e (ev .each v node); below = raise (ev .grows) h .below }
+    pub event-old : {m : List ℕ} → Vouches G I m → Vouches H J m
+    event-old {m} h = record { fits = λ v x node sized e. go v x node sized e (ev .each v node); below = raise (ev .grows) (h .below) }
       where
         go : (v : ℕ) (x : List ℕ) → T .Node v → length x ≡ T .size v → m ≡ T .form x (J (v / 2)) (v % 2) → Keeps G I J v ⊎ Nonced G H J v
             → x ≡ J v
         go v x node sized e (inl k) =
             h .fits v x node sized (e ∙ ap (λ (p : List ℕ). T .form x p (v % 2)) (k .parent)) ∙ sym (k .own)
-        go v x node sized e (inr f) =
-            let l =
-            h .below v x (f .nonce) node sized (omega (arith, f .high, ev .top))
-            (e ∙ ap (λ (p : List ℕ). T .form x p (v % 2)) (f .is)) in
-            absurd (omega (arith, f .low))
+        go v x node sized e (inr f) = absurd (stale (h .below) (ev .top) v x node sized f e)
+
+    -- where every parent has a fresh nonce, whatever it said
+    pub renewed-old : ((v : ℕ) → T .Node v → Nonced G H J v) → {m : List ℕ} → Below G m → Vouches H J m
+    renewed-old fresh h =
+        record {
+          fits = λ v x node sized e. absurd (stale h (ev .top) v x node sized (fresh v node) e);
+          below = raise (ev .grows) h;
+        }
 
     -- the event's own messages vouch for its labels
-    event-new : {m : List ℕ} → Says G H J m → Vouches H J m
-    event-new {m} k =
-        record {
-          fits = λ v x node sized e. go v x node sized e (ev .each v node);
-          below = λ v x s node sized small e. says-below k (ev .top) v x s small e;
-        }
+    pub event-new : {m : List ℕ} → Says G H J m → Vouches H J m
+    event-new {m} k = record { fits = λ v x node sized e. go v x node sized e (ev .each v node); below = says-below k (ev .top) }
       where
         go : (v : ℕ) (x : List ℕ) → T .Node v → length x ≡ T .size v → m ≡ T .form x (J (v / 2)) (v % 2) → Keeps G I J v ⊎ Nonced G H J v
             → x ≡ J v
@@ -144,9 +148,6 @@ module _ (T : Frame) where
             (sym (k .is) ∙ e) in
             let long = sym sized ∙ ap length (sym (q .label-same)) ∙ ev .sized u (k .is-node) in
             sym (q .label-same) ∙ sym (ev .coherent v u node (k .is-node) f (k .fresh) long (sym (q .parent-same)) (sym (q .side-same)))
-
-    pub event-vouch : (N M : List (List ℕ)) → ((m : List ℕ) → List·Memᴰ m N → Says G H J m) → AllVouch G I M → AllVouch H J (N ++ M)
-    event-vouch N M says f = both-vouch N M (λ m h. event-new (says m h)) (λ m h. event-old (f m h))
 
     pub event-nonced : AllNonced H J
     event-nonced v node = go (ev .each v node)

@@ -1,4 +1,4 @@
--- The tree as a frame of the core, and format and write as events on labels.
+-- The tree as a frame of the core, and format, wipe and write as events on labels.
 use mathlib.Core.Path.{_≡_, sym, ap, _∙_}
 use mathlib.Core.List.{List}
 use mathlib.Core.Logic.{_⊎_, inl, inr, ⊎-elim}
@@ -17,7 +17,7 @@ use Rattle.replay.proofs.Core.{Frame, Nonced, AllNonced, Keeps, Event}
 abbrev pub frame : ℕ → Frame
 frame n = record { Node = IsNode n; size = size n; form = form; parts = form-parts }
 
--- Format, at the nonce t: every parent has it.
+-- Format or wipe, at the nonce t: every parent has it.
 
 pub blank-nonced : (n t v : ℕ) → IsNode n v → Nonced (frame n) t (suc t) (blankLabels n t) v
 blank-nonced n t v h = record { nonce = t; is = blank-inner n t (v / 2) (omega (arith, h .high)); low = omega arith; high = omega arith }

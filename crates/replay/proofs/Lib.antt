@@ -4,9 +4,10 @@ pub mod Core
 pub mod Events
 pub mod Safe
 pub mod Moves
+pub mod Steady
 pub mod Agreement
+pub mod Since
 pub mod Untouched
 pub mod Unforged
 pub mod Theorem
 pub mod OfCode
-pub mod Histories

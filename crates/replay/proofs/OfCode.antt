@@ -5,7 +5,7 @@ use Prim.Native.Nat.{ℕ}
 use denote.Ref.{now}
 use Rattle.cmac.specs.Cmac.{cmacOf}
 use Rattle.tree.specs.Layout.{IsCard}
-use Rattle.tree.specs.Calls.{read, write, check, Gives, outcome, format}
+use Rattle.tree.specs.Calls.{read, write, check, wipe, Gives, outcome, format}
 use Rattle.tree.specs.declared.Anchor.{Anchor}
 use Rattle.tree.specs.declared.Answer.the-variants.{Whole}
 use Rattle.tree.proofs.CallLaws.{outcome-key, format-in}
@@ -13,11 +13,12 @@ use Rattle.calls.proofs.format.Reads as format-code
 use Rattle.calls.proofs.read.Reads as read-code
 use Rattle.calls.proofs.write.Reads as write-code
 use Rattle.calls.proofs.check.Reads as check-code
+use Rattle.calls.proofs.wipe.Reads as wipe-code
 use Rattle.replay.specs.Places.{Place}
 use Rattle.replay.specs.Run.{Step, State, start, result, next, after}
 use Rattle.replay.specs.Ran.{Ran, steps, Meets, Formatted, History, Runs, Demand3Of}
 use Rattle.replay.proofs.PlaceLaws.{no-place, at-places}
-use Rattle.replay.proofs.Theorem.{demand3, unforged}
+use Rattle.replay.proofs.Theorem.{demand3, unforged, afresh}
 
 -- What a contract says of a call that returned: x is what it was given, r what it answered, e what it left.
 
@@ -57,6 +58,17 @@ pub check-ran : (κs : _) (x : _) (r : _) (e : _) → check-code.Learnt κs x r 
       lent = [];
     })
 check-ran κs x r e learnt = learnt
+
+pub wipe-ran : (κs : _) (x : _) (r : _) (e : _) → wipe-code.Learnt κs x r e
+    → Meets (x .0)
+    (record {
+      step = record { card = now (x .1 .0); call = wipe };
+      answer = r .answer;
+      anchor = r .anchor;
+      card = now (e .1 .0);
+      lent = [];
+    })
+wipe-ran κs x r e learnt = learnt
 
 -- Every list of cards and calls runs from every anchor.
 pub runs : (a : Anchor) (xs : List Step) → Runs a xs
@@ -117,5 +129,6 @@ module _ (key : List ℕ) (n : ℕ) (card : List ℕ) (a : Anchor) (left : List 
       record {
         demand = demand3 key n (accepted .deep) (accepted .shallow) card (accepted .full) (steps rs);
         unforged = unforged key n (accepted .deep) (accepted .shallow) card (accepted .full) (steps rs);
+        afresh = afresh key n (accepted .deep) (accepted .shallow) card (accepted .full) (steps rs);
         told = follows key rs (start (cmacOf key) key n card) keyed (subst (λ (b : Anchor). History b rs) begun ran);
       }

@@ -25,6 +25,23 @@ module _ {A : Type 0} where
             ∙ append-assoc (q .before) (q .item ∷ q .behind) (p .item ∷ p .behind);
       }
 
+  -- the last
+  abbrev pub last : (xs : List A) (x : A) → Place (xs ++ (x ∷ []))
+  last xs x = record { before = xs; item = x; behind = []; is = refl }
+
+  pub tail-same : {x : A} {xs ys : List A} → x ∷ xs ≡ x ∷ ys → xs ≡ ys
+  tail-same e = cc
+
+  -- a place behind the first is one of the rest
+  abbrev pub rest : (x : A) (xs before : List A) (q : Place (x ∷ xs)) → q .before ≡ x ∷ before → Place xs
+  rest x xs before q e =
+      record {
+        before = before;
+        item = q .item;
+        behind = q .behind;
+        is = tail-same (q .is ∙ ap (λ (l : List A). l ++ (q .item ∷ q .behind)) e);
+      }
+
   pub no-place : Place {A = A} [] → ⊥
   no-place p = go (p .before) (p .is)
     where

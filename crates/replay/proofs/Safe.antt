@@ -1,6 +1,6 @@
 -- What the tagged messages say of a card whose checked messages are among them.
-use mathlib.Core.Path.{_≡_, refl, sym, ap, subst, _∙_}
-use mathlib.Core.List.{List, [], _++_, map, append-nil, List·Memᴰ, Memᴰ·of-map}
+use mathlib.Core.Path.{_≡_, refl, sym, ap, _∙_}
+use mathlib.Core.List.{List, [], _++_, map, List·Memᴰ, List·Memᴰ·append-cases, Memᴰ·of-map}
 use mathlib.Core.Logic.{⊎-elim}
 use Prim.Native.Nat.{ℕ, zero, suc, _+_, _/_, _^_, _<_, _≤_}
 use native.Mathlib.Omega.{arith}
@@ -20,7 +20,8 @@ use Rattle.tree.proofs.LabelLaws.{Sized, message-same, labels-root, labels-belo
 use Rattle.tree.proofs.LabelLaws.{new-root, new-same, new-sized, new-block}
 use Rattle.tree.proofs.WriteLaws.{blanked-message, written-message}
 use Rattle.replay.specs.Array.{Array, zeroed, blockAt}
-use Rattle.replay.proofs.Core.{Event, AllVouch, AllNonced, Says, down, none-vouch, event-vouch, event-nonced}
+use Rattle.replay.proofs.Core.{Event, Below, AllBelow, AllVouch, AllNonced, Vouches, Says, raise, down, says-below}
+use Rattle.replay.proofs.Core.{event-old, event-new, renewed-old, event-nonced}
 use Rattle.replay.proofs.Events.{frame, blank-nonced, blank-event, child-nonced, write-event}
 
 -- The messages M, with nonces below H, vouch for labels whose root nonce is t and whose blocks are the array's.
@@ -33,40 +34,46 @@ pub record Backs (n H : ℕ) (M : List (List ℕ)) (t : ℕ) (array : Array) : T
   pub count : length array ≡ 2 ^ n
   pub blocks : (i : ℕ) → i < 2 ^ n → ideal (2 ^ n + i) ≡ blockAt array i
 
--- After a format
+-- of the messages N and M
+both : (P : List ℕ → Type 0) (N M : List (List ℕ)) → ((m : List ℕ) → List·Memᴰ m N → P m) → ((m : List ℕ) → List·Memᴰ m M → P m)
+    → (m : List ℕ) → List·Memᴰ m (N ++ M) → P m
+both P N M f g m h = ⊎-elim (λ (p : List·Memᴰ m N). f m p) (λ (q : List·Memᴰ m M). g m q) (List·Memᴰ·append-cases N h)
 
-module _ (F : List ℕ → List ℕ) (F16 : (m : List ℕ) → length (F m) ≡ 16) (n : ℕ) (deep : 1 ≤ n) where
-  pub format-backs : (card : List ℕ) → length card ≡ cardLength n
-      → Backs n 1 (map (message (labels n 0 (blanked F n 0 card))) (allNodes n)) 0 (zeroed n)
+-- After a format or a wipe at the nonce t
+
+module _ (F : List ℕ → List ℕ) (F16 : (m : List ℕ) → length (F m) ≡ 16) (n : ℕ) (deep : 1 ≤ n) (t : ℕ) (small : t < 2 ^ 64) (card : List ℕ)
+    (full : length card ≡ cardLength n) (M : List (List ℕ)) (old : AllBelow (frame n) t M) where
+  abbrev blank : List (List ℕ)
+  blank = map (message (labels n t (blanked F n t card))) (allNodes n)
+
+  blank-says : (m : List ℕ) → List·Memᴰ m (map (message (labels n t (blanked F n t card))) (allNodes n))
+      → Says (frame n) t (suc t) (blankLabels n t) m
+  blank-says m h =
+      let k = Memᴰ·of-map (message (labels n t (blanked F n t card))) (allNodes n) h in
+      let node = among-node n (k .0) (k .1) in
+      record {
+        node = k .0;
+        is-node = node;
+        fresh = blank-nonced n t (k .0) node;
+        is = sym (k .2) ∙ blanked-message F F16 n deep t card full (k .0) node;
+      }
+
+  -- whatever older messages said, if their nonces are below t
+  pub blank-backs : Backs n (suc t) (map (message (labels n t (blanked F n t card))) (allNodes n) ++ M) t (zeroed (2 ^ n))
   unfolding zeroed
-  format-backs card full =
-      let N = map (message (labels n 0 (blanked F n 0 card))) (allNodes n) in
-      let I = blankLabels n 0 in
-      let ev = blank-event n 0 I (omega arith) in
+  blank-backs =
+      let I = blankLabels n t in
+      let ev = blank-event n t I small in
       record {
         ideal = I;
-        root = blank-root n 0 deep;
-        vouch = subst (λ (M : List (List ℕ)). AllVouch (frame n) 1 I M) (append-nil N)
-            (event-vouch (frame n) ev N [] says (none-vouch (frame n) I));
+        root = blank-root n t deep;
+        vouch = both (Vouches (frame n) (suc t) I) blank M (λ m h. event-new (frame n) ev (blank-says m h))
+            (λ m h. renewed-old (frame n) ev (blank-nonced n t) (old m h));
         nonced = event-nonced (frame n) ev;
-        sized = blank-sized n 0;
+        sized = blank-sized n t;
         count = length-replicate (2 ^ n) (replicate 64 0);
-        blocks = λ i h. blank-leaf n 0 (2 ^ n + i) (omega arith) ∙ sym (getD-replicate (2 ^ n) i (replicate 64 0) [] h);
+        blocks = λ i h. blank-leaf n t (2 ^ n + i) (omega arith) ∙ sym (getD-replicate (2 ^ n) i (replicate 64 0) [] h);
       }
-    where
-      says : (m : List ℕ) → List·Memᴰ m (map (message (labels n 0 (blanked F n 0 card))) (allNodes n))
-          → Says (frame n) 0 1 (blankLabels n 0) m
-      says m h =
-          let k = Memᴰ·of-map (message (labels n 0 (blanked F n 0 card))) (allNodes n) h in
-          let u = k .0 in
-          let node = among-node n u (k .1) in
-          record {
-            node = u;
-            is-node = node;
-            fresh = blank-nonced n 0 u node;
-            is = sym (k .2)
-                ∙ blanked-message F F16 n deep 0 card full u node;
-          }
 
 -- A card of the right length, read with the root nonce t
 
@@ -144,6 +151,13 @@ module _ (F : List ℕ → List ℕ) (F16 : (m : List ℕ) → length (F m) ≡ 
             (new-same n r i b inside L J (w / 2) (λ f. absurd (f (c .level) (omega (arith, c .high)) (c .is))));
       }
 
+  -- whatever the card showed, they have nonces up to the new one
+  pub write-below : {M : List (List ℕ)} → r + n < 2 ^ 64 → AllBelow (frame n) (suc r) M → AllBelow (frame n) (suc (r + n)) (new ++ M)
+  write-below {M} unspent old =
+      both (Below (frame n) (suc (r + n))) new M
+      (λ m h. says-below (frame n) (says-under (labels n t card) (λ w k f. refl) m h) (omega arith))
+      (λ m h. raise (frame n) {m = m} (omega arith) (old m h))
+
   pub write-backs : {M : List (List ℕ)} {array : Array} → Backs n (suc r) M t array → r + n < 2 ^ 64
       → ((w : ℕ) → List·Memᴰ w (pairs n i) → (w ≡ 2 ^ n + i → ⊥) → List·Memᴰ (message (labels n t card) w) M)
       → Backs n (suc (r + n)) (new ++ M) (r + n) (set array i b)
@@ -151,7 +165,8 @@ module _ (F : List ℕ → List ℕ) (F16 : (m : List ℕ) → length (F m) ≡ 
       record {
         ideal = newLabels n r i b I₀;
         root = new-root n r i b inside I₀ deep;
-        vouch = event-vouch (frame n) ev new M (says-under I₀ keeps) (p .vouch);
+        vouch = both (Vouches (frame n) (suc (r + n)) (newLabels n r i b I₀)) new M
+            (λ m h. event-new (frame n) ev (says-under I₀ keeps m h)) (λ m h. event-old (frame n) ev (p .vouch m h));
         nonced = event-nonced (frame n) ev;
         sized = new-sized n r i b inside I₀ long (p .sized);
         count = length-set array i b ∙ p .count;

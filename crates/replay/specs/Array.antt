@@ -1,27 +1,29 @@
 -- The plain array. It is told each call's kind, block number and new block, and whether the call counts; it sees neither card nor anchor.
-use Prim.Native.Nat.{ℕ, _^_}
+use Prim.Native.Nat.{ℕ}
 use mathlib.Core.Bool.{Bool, cond}
 use mathlib.Core.List.{List, []}
-use lib.ListN.{getD, set, replicate}
+use lib.ListN.{length, getD, set, replicate}
 
 pub data Told : Type 0 where
   read : (i : ℕ) → Told
   write : (i : ℕ) (block : List ℕ) → Told
   check : Told
+  wipe : Told
 
 abbrev pub Array : Type 0
 Array = List (List ℕ)
 
--- 2^n blocks, all zero, as after a format
+-- so many blocks, all zero
 unfoldable pub zeroed : ℕ → Array
-zeroed n = replicate (2 ^ n) (replicate 64 0)
+zeroed count = replicate count (replicate 64 0)
 
 -- block i
 abbrev pub blockAt : Array → ℕ → List ℕ
 blockAt a i = getD a i []
 
--- the array after a call: writes that count move it, and nothing else does
+-- the array after a call: a write that counts puts its block, a wipe that counts empties it, and nothing else moves it
 unfoldable pub moved : Array → Told → Bool → Array
 moved a (read i) counts = a
 moved a (write i b) counts = cond counts (set a i b) a
 moved a check counts = a
+moved a wipe counts = cond counts (zeroed (length a)) a

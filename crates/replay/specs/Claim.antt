@@ -6,11 +6,12 @@ use mathlib.Core.List.{List, List·Memᴰ}
 use mathlib.Core.Logic.{_⊎_}
 use Rattle.tree.specs.Layout.{label, tag}
 use Rattle.tree.specs.Labels.{message, labels}
+use Rattle.tree.specs.Calls
 use Rattle.tree.specs.Calls.{checks, isWrite}
 use Rattle.tree.specs.declared.Node.{Node}
 use Rattle.tree.specs.declared.Answer.the-variants.{Whole, Wrong}
-use Rattle.replay.specs.Array.{Told, read, write, check, Array, blockAt}
-use Rattle.replay.specs.Places.{Place}
+use Rattle.replay.specs.Array.{Told, read, write, check, wipe, Array, blockAt}
+use Rattle.replay.specs.Places.{Place, Behind}
 use Rattle.replay.specs.Run.{Step, told, Store, State, result, after}
 
 -- What a call on a card of depth n showed is what the array, told of the call, holds: the bytes that a read gave, and every block on the
@@ -19,6 +20,7 @@ abbrev pub Agrees : ℕ → Array → List ℕ → List ℕ → Told → Type 0
 Agrees n array card given (read i) = given ≡ blockAt array i
 Agrees n array card given (write i block) = Unit {0}
 Agrees n array card given check = (i : ℕ) → i < 2 ^ n → label n card (2 ^ n + i) ≡ blockAt array i
+Agrees n array card given wipe = Unit {0}
 
 -- the call is given the card as last left
 abbrev pub Untouched : Store → Step → Type 0
@@ -53,6 +55,11 @@ module _ (F : List ℕ → List ℕ) where
   abbrev pub WroteUntouched : State → Step → Type 0
   WroteUntouched s x = Accepted (s .store) x → isWrite (x .call) ≡ true → Untouched (s .store) x
 
+  -- it is an accepted wipe
+  pub record AcceptedWipe (s : Store) (x : Step) : Type 0 where
+    pub accepted : Accepted s x
+    pub is-wipe : x .call ≡ Calls.wipe
+
 module _ (F : List ℕ → List ℕ) (s₀ : State) where
   -- what is known before a call
   abbrev pub known : {xs : List Step} → Place xs → State
@@ -71,11 +78,15 @@ module _ (F : List ℕ → List ℕ) (s₀ : State) where
     pub place : Place xs
     pub forged : Forged F (known place) (place .item)
 
-  -- every accepted write had an untouched card
-  abbrev pub Faithful : List Step → Type 0
-  Faithful xs = Everywhere xs (WroteUntouched F)
+  -- no accepted wipe stands behind that call
+  abbrev pub Unwiped : {xs : List Step} → Place xs → Type 0
+  Unwiped {xs} p = (q : Place xs) → Behind p q → AcceptedWipe F (known q .store) (q .item) → ⊥
 
-  -- where every accepted write before a call had an untouched card, and so has the call, it is not refused for a tag
+  -- since the last accepted wipe, or the format if there is none, every accepted write had an untouched card
+  abbrev pub Faithful : List Step → Type 0
+  Faithful xs = (p : Place xs) → Unwiped p → WroteUntouched F (known p) (p .item)
+
+  -- where that is so of the calls before one, and its card is untouched, it is not refused for a tag
   abbrev pub Quiet : List Step → Type 0
   Quiet xs =
       (p : Place xs) → Faithful (p .before) → Untouched (known p .store) (p .item)

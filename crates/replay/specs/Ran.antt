@@ -3,13 +3,13 @@ use mathlib.Core.Path.{_≡_}
 use mathlib.Core.List.{List, [], _∷_, map}
 use Prim.Native.Nat.{ℕ}
 use Rattle.cmac.specs.Cmac.{cmacOf}
-use Rattle.tree.specs.Calls.{Gives, outcome, format}
+use Rattle.tree.specs.Calls.{wipe, Gives, outcome, format}
 use Rattle.tree.specs.declared.Anchor.{Anchor}
 use Rattle.tree.specs.declared.Answer.{Answer}
 use Rattle.replay.specs.Places.{Place}
 use Rattle.replay.specs.Run.{Step, start, result, after}
-use Rattle.replay.specs.Claim.{Demand3}
-use Rattle.replay.specs.Tagged.{Unforged}
+use Rattle.replay.specs.Claim.{Accepted, known, Demand3}
+use Rattle.replay.specs.Tagged.{Unforged, Afresh}
 
 pub record Ran : Type 0 where
   -- the card and the call that it was given
@@ -42,11 +42,13 @@ pub record Runs (a : Anchor) (xs : List Step) : Type 0 where
   pub ran : History a calls
   pub are : steps calls ≡ xs
 
--- Of the calls that ran after a format: demand 3 holds of their list, what is tagged is as stated, and each call answered and left what
--- the list has at its place.
+-- Of the calls that ran after a format: demand 3 holds of their list, what is tagged is as stated, a wipe stands where the format did, and
+-- each call answered and left what the list has at its place.
 pub record Demand3Of (key : List ℕ) (n : ℕ) (card : List ℕ) (rs : List Ran) : Type 0 where
   pub demand : Demand3 (cmacOf key) (start (cmacOf key) key n card) (steps rs)
   pub unforged : Unforged (cmacOf key) (start (cmacOf key) key n card) n (steps rs)
+  pub afresh : (p : Place (steps rs)) → Accepted (cmacOf key) (known (cmacOf key) (start (cmacOf key) key n card) p .store) (p .item)
+      → p .item .call ≡ wipe → Afresh (cmacOf key) (start (cmacOf key) key n card) n p
   pub told : (p : Place rs)
       → Gives (result (cmacOf key) (after (cmacOf key) (start (cmacOf key) key n card) (steps (p .before)) .store) (p .item .step))
       (p .item .answer) (p .item .anchor) (p .item .card) (p .item .lent)

@@ -1,11 +1,11 @@
 -- A list of calls after a format, and what becomes known along it, for any function F that makes a tag of a message.
-use Prim.Native.Nat.{ℕ, _+_}
+use Prim.Native.Nat.{ℕ, _+_, _^_}
 use mathlib.Core.Bool.{cond, _&&_}
 use mathlib.Core.List.{List, [], _∷_, _++_, map}
 use Rattle.tree.specs.Nodes.{pairs, allNodes}
 use Rattle.tree.specs.Labels.{message, labels}
 use Rattle.tree.specs.Answer.{isWhole}
-use Rattle.tree.specs.Calls.{Call, read, write, check, isWrite, Outcome, outcome, format}
+use Rattle.tree.specs.Calls.{Call, read, write, check, wipe, renews, Outcome, outcome, format}
 use Rattle.tree.specs.declared.Anchor.{Anchor}
 use Rattle.replay.specs.Array
 use Rattle.replay.specs.Array.{Told, Array, zeroed, moved}
@@ -20,12 +20,14 @@ abbrev pub told : Call → Told
 told (read i buffer) = Array.read i
 told (write i block ranges) = Array.write i block
 told check = Array.check
+told wipe = Array.wipe
 
 -- the nodes that an accepted call tags
 abbrev pub tags : ℕ → Call → List ℕ
 tags n (read i buffer) = []
 tags n (write i block ranges) = pairs n i
 tags n check = []
+tags n wipe = allNodes n
 
 -- the messages of nodes, built from a card and an anchor
 abbrev pub messages : Anchor → List ℕ → List ℕ → List (List ℕ)
@@ -36,7 +38,7 @@ pub record Store : Type 0 where
   -- as the last call returned it
   pub anchor : Anchor
   pub array : Array
-  -- the card as the format or the last accepted write left it
+  -- the card as the format, or the last accepted write or wipe, left it
   pub left : List ℕ
 
 pub record State : Type 0 where
@@ -50,7 +52,7 @@ moves s c o =
     record {
       anchor = o .anchor;
       array = moved (s .array) (told c) (isWhole (o .answer));
-      left = cond (isWhole (o .answer) && isWrite c) (o .card) (s .left);
+      left = cond (isWhole (o .answer) && renews c) (o .card) (s .left);
     }
 
 -- the messages that it tags: those of its nodes, on the card that it left and with its new root nonce
@@ -63,7 +65,7 @@ module _ (F : List ℕ → List ℕ) where
   start key n card =
       let o = format F key n card in
       record {
-        store = record { anchor = o .anchor; array = zeroed n; left = o .card };
+        store = record { anchor = o .anchor; array = zeroed (2 ^ n); left = o .card };
         tagged = messages (o .anchor) (o .card) (allNodes n);
       }
 
@@ -81,7 +83,7 @@ module _ (F : List ℕ → List ℕ) where
   after s [] = s
   after s (x ∷ xs) = after (next s x) xs
 
-  -- how many of them are accepted writes
-  unfoldable pub writes : State → List Step → ℕ
-  writes s [] = 0
-  writes s (x ∷ xs) = cond (isWhole (result (s .store) x .answer) && isWrite (x .call)) 1 0 + writes (next s x) xs
+  -- how many of them are accepted writes and wipes
+  unfoldable pub renewals : State → List Step → ℕ
+  renewals s [] = 0
+  renewals s (x ∷ xs) = cond (isWhole (result (s .store) x .answer) && renews (x .call)) 1 0 + renewals (next s x) xs

@@ -1,4 +1,6 @@
--- What document 01 says of the whole, beside the calls: its table, its rules in words, and when a read is accepted.
+-- What the papers say of the whole, beside the calls: document 01's table, its rules in words, when a read is accepted, and what document
+-- 02 says of a wipe.
 pub mod Table
 pub mod Rules
 pub mod ReadRule
+pub mod WipeRule

@@ -12,7 +12,7 @@ use Rattle.tree.specs.Nodes.{pathNode, pairs, pairsButLeaf}
 use Rattle.tree.specs.Labels.{message, labels}
 use Rattle.tree.specs.Card.{right, firstWrong}
 use Rattle.tree.specs.Limits.{depthLimit, cardLimit}
-use Rattle.tree.specs.Calls.{Call, read, write, check, checks, verdict, formatAnswer, answerOf, done, settled, outcome}
+use Rattle.tree.specs.Calls.{Call, read, write, check, wipe, checks, verdict, formatAnswer, answerOf, done, settled, outcome}
 use Rattle.tree.specs.declared.Node.{Node}
 use Rattle.tree.specs.declared.Anchor.{Anchor}
 use Rattle.tree.specs.declared.Refusal.{Refusal}
@@ -22,7 +22,7 @@ use Rattle.words.specs.Bytes.{same}
 use Rattle.words.proofs.Same.{same-is, same-refl}
 use Rattle.tree.proofs.LayoutLaws.{AllNodes}
 use Rattle.tree.proofs.NodeLaws.{pair-checked, checked-pair, pair-node, path-among, path-is-node, node-among, among-node}
-use Rattle.tree.proofs.WriteLaws.{Right, Clean, clean-written}
+use Rattle.tree.proofs.WriteLaws.{Right, Clean, clean-blanked, clean-written}
 use Rattle.tree.proofs.LimitLaws.{no-limits, passes, pass, is-equal, equal-is, depth-passes, depth-in, Passes, passed, pass-all}
 
 -- Tags
@@ -83,6 +83,7 @@ checks-nodes a card (read i buffer) p w m = path-is-node (a .depth) i (p .inside
 checks-nodes a card (write i block ranges) p w m =
     pair-node (a .depth) i (p .inside) w (checked-pair (a .depth) i (p .inside) w m (p .sound .deep))
 checks-nodes a card check p w m = among-node (a .depth) w m
+checks-nodes a card wipe p w m = absurd (List·Memᴰ·not-nil m)
 
 -- Answers
 
@@ -122,6 +123,12 @@ module _ (F : List ℕ → List ℕ) (a : Anchor) (card : List ℕ) (c : Call) w
       let v = verdict-wrong _ _ u e in
       v .1 (wrong-none F (a .depth) (a .root .0) card (checks (a .depth) c) (f (passed a card c (v .0))))
 
+-- A wipe checks no tag: within its limits it is accepted, whatever the card.
+pub wipe-accepts : (F : List ℕ → List ℕ) (a : Anchor) (card : List ℕ) → Passes a card wipe → answerOf F a card wipe ≡ Whole
+unfolding checks
+wipe-accepts F a card p =
+    accept F a card wipe (record { limits-passed = p; tags-right = λ u m. absurd (List·Memᴰ·not-nil m) })
+
 -- On a card where every tag is right a call is accepted within its limits, and names no wrong tag in any case;
 module _ (F : List ℕ → List ℕ) (a : Anchor) (card : List ℕ) (clean : Clean F (a .depth) (a .root .0) card) (c : Call) where
   pub clean-accepts : Passes a card c → answerOf F a card c ≡ Whole
@@ -132,6 +139,12 @@ module _ (F : List ℕ → List ℕ) (a : Anchor) (card : List ℕ) (clean : Cle
 
 -- accepted, it leaves such a card, under the anchor that it leaves
 module _ (F : List ℕ → List ℕ) (F16 : (m : List ℕ) → length (F m) ≡ 16) (a : Anchor) (card : List ℕ) where
+  -- a wipe does so on any card
+  pub clean-wiped : Passes a card wipe →
+      let o = done F a card wipe in
+      Clean F (o .anchor .depth) (o .anchor .root .0) (o .card)
+  clean-wiped p = clean-blanked F F16 (a .depth) (p .sound .deep) (a .root .0 + a .depth) card (p .sound .full)
+
   pub clean-done : (c : Call) → Passes a card c → Clean F (a .depth) (a .root .0) card →
       let o = done F a card c in
       Clean F (o .anchor .depth) (o .anchor .root .0) (o .card)
@@ -139,14 +152,16 @@ module _ (F : List ℕ → List ℕ) (F16 : (m : List ℕ) → length (F m) ≡ 
   clean-done (write i block ranges) p clean =
       clean-written F F16 (a .depth) (p .sound .deep) (a .root .0) (a .root .0) card i block (p .inside) (p .long) clean
   clean-done check p clean = clean
+  clean-done wipe p clean = clean-wiped p
 
 -- Outcomes
 
 module _ (F : List ℕ → List ℕ) (a : Anchor) (card : List ℕ) where
-  settled-answer : (c : Call) (o : Answer) → settled F o a card c .answer ≡ o
+  pub settled-answer : (c : Call) (o : Answer) → settled F o a card c .answer ≡ o
   settled-answer (read i buffer) Whole = refl
   settled-answer (write i block ranges) Whole = refl
   settled-answer check Whole = refl
+  settled-answer wipe Whole = refl
   settled-answer c (Wrong u) = refl
   settled-answer c (Refused r) = refl
 
@@ -162,6 +177,7 @@ module _ (F : List ℕ → List ℕ) (a : Anchor) (card : List ℕ) where
   settled-key (read i buffer) Whole = (refl, refl)
   settled-key (write i block ranges) Whole = (refl, refl)
   settled-key check Whole = (refl, refl)
+  settled-key wipe Whole = (refl, refl)
   settled-key c (Wrong u) = (refl, refl)
   settled-key c (Refused r) = (refl, refl)
 

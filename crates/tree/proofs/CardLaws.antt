@@ -2,13 +2,15 @@
 use mathlib.Core.Path.{_≡_, refl, sym, ap, ap₂, subst, _∙_}
 use mathlib.Core.List.{List, [], _∷_, _++_, List·Memᴰ, List·Memᴰ·head, List·Memᴰ·tail, List·Memᴰ·cases-cons, List·Memᴰ·not-nil}
 use mathlib.Core.Logic.{_⊎_, inl, inr, ⊎-elim}
-use Prim.Native.Nat.{ℕ, _+_, _<_, _≤_}
+use Prim.Native.Nat.{ℕ, suc, _+_, _<_, _≤_}
+use native.Mathlib.Numerals.{add-one}
 use native.Mathlib.Omega.{arith}
 use lib.ListN.{length, length-append}
 use lib.Seq.{length-sets}
 use Rattle.words.specs.Bytes.{at, part}
 use Rattle.words.proofs.Cases.{equal-or-not}
 use Rattle.tree.specs.Layout.{IsNode, size, offset, cardLength, label, tag}
+use Rattle.tree.specs.Nodes.{upTo}
 use Rattle.tree.specs.Labels.{Labels, message}
 use Rattle.tree.specs.Card.{stamp, stamped}
 use Rattle.tree.proofs.ByteLaws.{at-sets-apart, at-sets-first, part-sets-apart, part-sets-first, part-sets-second}
@@ -33,15 +35,9 @@ pub record Puts (n : ℕ) (L : Labels) (u j x : ℕ) : Type 0 where
 abbrev pub Leaves : ℕ → Labels → ℕ → ℕ → ℕ → Type 0
 Leaves n L u j x = ((j < offset n u) ⊎ (offset n u + (size n u + 16) ≤ j)) ⊎ Puts n L u j x
 
-module _ (F : List ℕ → List ℕ) (F16 : (m : List ℕ) → length (F m) ≡ 16) (n : ℕ) (L : Labels) (sized : Sized n L) where
-  -- a card shows u as stamped
-  pub record Shows (card : List ℕ) (u : ℕ) : Type 0 where
-    pub tag-is : tag n card u ≡ F (message L u)
-    pub label-is : label n card u ≡ L u
+-- Nodes after nodes
 
-  entry-length : (u : ℕ) → IsNode n u → length (L u ++ F (message L u)) ≡ size n u + 16
-  entry-length u h = length-append (L u) (F (message L u)) ∙ ap₂ _+_ (sized u h) (F16 (message L u))
-
+module _ (F : List ℕ → List ℕ) (n : ℕ) (L : Labels) where
   length-stamp : (card : List ℕ) (u : ℕ) → length (stamp F n L card u) ≡ length card
   length-stamp card u = simp length-sets
 
@@ -49,6 +45,30 @@ module _ (F : List ℕ → List ℕ) (F16 : (m : List ℕ) → length (F m) ≡ 
   unfolding stamped
   length-stamped [] card = refl
   length-stamped (u ∷ us) card = length-stamped us (stamp F n L card u) ∙ length-stamp card u
+
+  pub stamped-append : (us vs card : List ℕ) → stamped F n L (us ++ vs) card ≡ stamped F n L vs (stamped F n L us card)
+  unfolding stamped
+  stamped-append [] vs card = refl
+  stamped-append (u ∷ us) vs card = stamped-append us vs (stamp F n L card u)
+
+  -- one level more
+  pub stamped-more : (k : ℕ) (f : ℕ → List ℕ) (card : List ℕ)
+      → stamped F n L (upTo (k + 1) f) card ≡ stamped F n L (f (k + 1)) (stamped F n L (upTo k f) card)
+  unfolding upTo
+  stamped-more k f card =
+      ap (λ (j : ℕ). stamped F n L (upTo j f) card) (add-one k) ∙ stamped-append (upTo k f) (f (suc k)) card
+      ∙ ap (λ (j : ℕ). stamped F n L (f j) (stamped F n L (upTo k f) card)) (sym (add-one k))
+
+-- What they show
+
+module _ (F : List ℕ → List ℕ) (F16 : (m : List ℕ) → length (F m) ≡ 16) (n : ℕ) (L : Labels) (sized : Sized n L) where
+  -- a card shows u as stamped
+  pub record Shows (card : List ℕ) (u : ℕ) : Type 0 where
+    pub tag-is : tag n card u ≡ F (message L u)
+    pub label-is : label n card u ≡ L u
+
+  pub entry-length : (u : ℕ) → IsNode n u → length (L u ++ F (message L u)) ≡ size n u + 16
+  entry-length u h = length-append (L u) (F (message L u)) ∙ ap₂ _+_ (sized u h) (F16 (message L u))
 
   module _ (card : List ℕ) (full : length card ≡ cardLength n) (u : ℕ) (h : IsNode n u) where
     room : offset n u + length (L u ++ F (message L u)) ≤ length card
@@ -100,7 +120,7 @@ module _ (F : List ℕ → List ℕ) (F16 : (m : List ℕ) → length (F m) ≡ 
   stamped-shows [] nodes card full u h (inr m) = absurd (List·Memᴰ·not-nil m)
   stamped-shows (w ∷ us) nodes card full u h o =
       stamped-shows us (λ v m. nodes v (List·Memᴰ·tail m)) (stamp F n L card w)
-      (length-stamp card w ∙ full) u h (go (equal-or-not u w) o)
+      (length-stamp F n L card w ∙ full) u h (go (equal-or-not u w) o)
     where
       hw : IsNode n w
       hw = nodes w (List·Memᴰ·head refl)
@@ -119,7 +139,7 @@ module _ (F : List ℕ → List ℕ) (F16 : (m : List ℕ) → length (F m) ≡ 
   stamped-byte [] nodes card full j x f e = e
   stamped-byte (w ∷ us) nodes card full j x f e =
       stamped-byte us (λ v m. nodes v (List·Memᴰ·tail m)) (stamp F n L card w)
-      (length-stamp card w ∙ full) j x (λ v m. f v (List·Memᴰ·tail m))
+      (length-stamp F n L card w ∙ full) j x (λ v m. f v (List·Memᴰ·tail m))
       (stamp-byte card full w (nodes w (List·Memᴰ·head refl)) j x (f w (List·Memᴰ·head refl)) e)
 
   -- any other is shown as before
@@ -130,5 +150,5 @@ module _ (F : List ℕ → List ℕ) (F16 : (m : List ℕ) → length (F m) ≡ 
   stamped-keeps (w ∷ us) nodes card full u h o =
       alike-trans
       (stamped-keeps us (λ v m. nodes v (List·Memᴰ·tail m)) (stamp F n L card w)
-      (length-stamp card w ∙ full) u h (λ m. o (List·Memᴰ·tail m)))
+      (length-stamp F n L card w ∙ full) u h (λ m. o (List·Memᴰ·tail m)))
       (stamp-keeps card full w (nodes w (List·Memᴰ·head refl)) u h (λ e. o (List·Memᴰ·head e)))

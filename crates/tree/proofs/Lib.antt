@@ -8,3 +8,4 @@ pub mod RangeLaws
 pub mod LimitLaws
 pub mod CallLaws
 pub mod AnswerLaws
+pub mod BlankLaws

@@ -13,7 +13,7 @@ use Rattle.words.proofs.Cases.{below-or-not}
 use Rattle.tree.specs.Layout.{IsCard, cardLength}
 use Rattle.tree.specs.Limits.{Limit, depthLimit, cardLimit, firstFailing}
 use Rattle.tree.specs.Tests.{failing}
-use Rattle.tree.specs.Calls.{Call, read, write, check, firstLimits, ownLimits, limits}
+use Rattle.tree.specs.Calls.{Call, read, write, check, wipe, firstLimits, ownLimits, limits}
 use Rattle.tree.specs.declared.Anchor.{Anchor}
 use Rattle.tree.specs.declared.Refusal.{Refusal}
 use Rattle.tree.specs.declared.limits.Test.the-variants.{Passed, Failed}
@@ -168,15 +168,21 @@ pub record Writes (n t : ℕ) (card : List ℕ) (i : ℕ) (block ranges : List �
   pub room : 16 * n ≤ length ranges
   pub unspent : t + n < 2 ^ 64
 
+pub record Wipes (n t : ℕ) (card : List ℕ) : Type 0 where
+  pub sound : Sound n t card
+  pub unspent : t + n < 2 ^ 64
+
 abbrev pub Passes : Anchor → List ℕ → Call → Type 0
 Passes a card (read i buffer) = Reads (a .depth) (a .root .0) card i buffer
 Passes a card (write i block ranges) = Writes (a .depth) (a .root .0) card i block ranges
 Passes a card check = Sound (a .depth) (a .root .0) card
+Passes a card wipe = Wipes (a .depth) (a .root .0) card
 
 pub passes-sound : (a : Anchor) (card : List ℕ) (c : Call) → Passes a card c → Sound (a .depth) (a .root .0) card
 passes-sound a card (read i buffer) p = p .sound
 passes-sound a card (write i block ranges) p = p .sound
 passes-sound a card check p = p
+passes-sound a card wipe p = p .sound
 
 own-passed : (a : Anchor) (card : List ℕ) (c : Call) → Sound (a .depth) (a .root .0) card → firstFailing (ownLimits a c) ≡ none
     → Passes a card c
@@ -197,6 +203,7 @@ own-passed a card (write i block ranges) s e =
       unspent = leb-false (2 ^ 64) (a .root .0 + a .depth) (u .0);
     }
 own-passed a card check s e = s
+own-passed a card wipe s e = record { sound = s; unspent = leb-false (2 ^ 64) (a .root .0 + a .depth) (passes _ _ e .0) }
 
 pass-own : (a : Anchor) (card : List ℕ) (c : Call) → Passes a card c → firstFailing (ownLimits a c) ≡ none
 pass-own a card (read i buffer) p =
@@ -207,6 +214,7 @@ pass-own a card (write i block ranges) p =
     (pass _ _ (le-ltb (length ranges) (16 * a .depth) (p .room))
     (pass _ _ (lt-leb (2 ^ 64) (a .root .0 + a .depth) (p .unspent)) no-limits)))
 pass-own a card check p = no-limits
+pass-own a card wipe p = pass _ _ (lt-leb (2 ^ 64) (a .root .0 + a .depth) (p .unspent)) no-limits
 
 pub passed : (a : Anchor) (card : List ℕ) (c : Call) → firstFailing (limits a card c) ≡ none → Passes a card c
 unfolding limits

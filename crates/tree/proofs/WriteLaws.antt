@@ -1,4 +1,4 @@
--- The cards that format and write leave: their labels, their messages and their tags.
+-- The cards that format, wipe and write leave: their labels, their messages and their tags.
 use mathlib.Core.Path.{_≡_, sym, ap, subst, _∙_}
 use mathlib.Core.List.{List}
 use mathlib.Core.Logic.{_⊎_, inl, inr, ⊎-elim}
@@ -28,12 +28,12 @@ pub labelled-message : (n t : ℕ) (card : List ℕ) (L : Labels) → Labelled n
 labelled-message n t card L f u h = message-same (labels n t card) L u (f u (inr h)) (f (u / 2) (parent-node n u h))
 
 module _ (F : List ℕ → List ℕ) (F16 : (m : List ℕ) → length (F m) ≡ 16) (n : ℕ) (deep : 1 ≤ n) where
-  -- Format
+  -- Format or wipe
 
   module _ (t : ℕ) (card : List ℕ) (full : length card ≡ cardLength n) where
     pub blanked-length : length (blanked F n t card) ≡ cardLength n
     unfolding blanked
-    blanked-length = length-stamped F F16 n (blankLabels n t) (blank-sized n t) (allNodes n) card ∙ full
+    blanked-length = length-stamped F n (blankLabels n t) (allNodes n) card ∙ full
 
     blanked-shows : (u : ℕ) → IsNode n u → Shows F F16 n (blankLabels n t) (blank-sized n t) (blanked F n t card) u
     unfolding blanked
@@ -64,7 +64,7 @@ module _ (F : List ℕ → List ℕ) (F16 : (m : List ℕ) → length (F m) ≡ 
 
     pub written-length : length (written F n t r card i b) ≡ cardLength n
     unfolding written
-    written-length = length-stamped F F16 n L sized (pairs n i) card ∙ full
+    written-length = length-stamped F n L (pairs n i) card ∙ full
 
     pub written-shows : (w : ℕ) → Child n i inside w → Shows F F16 n L sized (written F n t r card i b) w
     unfolding written
@@ -117,7 +117,7 @@ pub record Clean (F : List ℕ → List ℕ) (n t : ℕ) (card : List ℕ) : Typ
   pub right : (u : ℕ) → IsNode n u → Right F n t card u
 
 module _ (F : List ℕ → List ℕ) (F16 : (m : List ℕ) → length (F m) ≡ 16) (n : ℕ) (deep : 1 ≤ n) where
-  -- such is the card that a format leaves, whatever it was
+  -- such is the card that a format or a wipe leaves, whatever it was
   pub clean-blanked : (t : ℕ) (card : List ℕ) → length card ≡ cardLength n → Clean F n t (blanked F n t card)
   clean-blanked t card full = record { full = blanked-length F F16 n deep t card full; right = blanked-right F F16 n deep t card full }
 

@@ -15,23 +15,34 @@ use Rattle.tree.specs.declared.Refusal.{Refusal}
 use Rattle.tree.specs.declared.Answer.{Answer}
 use Rattle.tree.specs.declared.Answer.the-variants.{Whole, Wrong, Refused}
 
--- A call after format, with what it is lent: a buffer of any bytes to a read, a new block and a range buffer to a write.
+-- A call after format, with what it is lent: a buffer of any bytes to a read, a new block and a range buffer to a write. A wipe empties
+-- the card under the same key.
 pub data Call : Type 0 where
   read : (i : ℕ) (buffer : List ℕ) → Call
   write : (i : ℕ) (block ranges : List ℕ) → Call
   check : Call
+  wipe : Call
 
 -- the buffer that a call may change
 abbrev pub lentTo : Call → List ℕ
 lentTo (read i buffer) = buffer
 lentTo (write i block ranges) = ranges
 lentTo check = []
+lentTo wipe = []
 
--- the call that moves the anchor and the card
+-- a write
 abbrev pub isWrite : Call → Bool
 isWrite (read i buffer) = false
 isWrite (write i block ranges) = true
 isWrite check = false
+isWrite wipe = false
+
+-- the calls that move the anchor and the card
+abbrev pub renews : Call → Bool
+renews (read i buffer) = false
+renews (write i block ranges) = true
+renews check = false
+renews wipe = true
 
 -- 1, 2 and 3, with which every call after format begins; len is the card's length
 abbrev pub firstLimits : Anchor → ℕ → List Limit
@@ -43,6 +54,7 @@ ownLimits a (read i buffer) = blockLimit (a .depth) i ∷ lengthLimit (length bu
 ownLimits a (write i block ranges) =
     blockLimit (a .depth) i ∷ lengthLimit (length block) ∷ rangeLimit (a .depth) (length ranges) ∷ spentLimit (a .depth) (a .root .0) ∷ []
 ownLimits a check = []
+ownLimits a wipe = spentLimit (a .depth) (a .root .0) ∷ []
 
 unfoldable pub limits : Anchor → List ℕ → Call → List Limit
 limits a card c = firstLimits a (length card) ++ ownLimits a c
@@ -52,6 +64,7 @@ unfoldable pub checks : ℕ → Call → List ℕ
 checks n (read i buffer) = path n i
 checks n (write i block ranges) = pairsButLeaf n i
 checks n check = allNodes n
+checks n wipe = []
 
 -- the first limit that fails; else the first wrong node; else whole
 abbrev pub verdict : Option Refusal → Option ℕ → Answer
@@ -96,6 +109,9 @@ module _ (F : List ℕ → List ℕ) where
         lent = encode (rangesOf (a .depth) i) ++ drop (16 * a .depth) ranges;
       }
   done a card check = record { answer = Whole; anchor = a; card = card; lent = [] }
+  done a card wipe =
+      let t = a .root .0 + a .depth in
+      record { answer = Whole; anchor = rooted a t; card = blanked F (a .depth) t card; lent = [] }
 
   -- a refused call answers why and leaves everything as it was
   abbrev pub settled : Answer → Anchor → List ℕ → Call → Outcome

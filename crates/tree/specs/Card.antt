@@ -1,4 +1,4 @@
--- Cards as format and write leave them, and tags as read, write and check see them, for any function F that makes a tag of a message.
+-- Cards as format, wipe and write leave them, and tags as read, write and check see them, for any function F that makes a tag of a message.
 use Prim.Native.Nat.{ℕ}
 use mathlib.Core.Bool.{Bool, cond}
 use mathlib.Core.List.{List, [], _∷_, _++_}

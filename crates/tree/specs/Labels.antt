@@ -26,7 +26,7 @@ labels n t card u = cond (eqb u 1) (be8 t) (label n card u)
 abbrev pub nonceOrBlock : ℕ → ℕ → List ℕ → Labels
 nonceOrBlock n t b u = cond (ltb u (2 ^ n)) (be8 t) b
 
--- after format: every nonce t, and every block zero
+-- after a format or a wipe: every nonce t, and every block zero
 unfoldable pub blankLabels : ℕ → ℕ → Labels
 blankLabels n t = nonceOrBlock n t (replicate 64 0)
 

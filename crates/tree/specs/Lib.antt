@@ -1,5 +1,5 @@
--- The tree on the card, in the order of document 01: numbers as bytes, the layout, the nodes, labels and messages, the cards that format
--- and write leave, the ranges, the limits, and what each call does.
+-- The tree on the card, in the order of document 01: numbers as bytes, the layout, the nodes, labels and messages, the cards that format,
+-- wipe and write leave, the ranges, the limits, what each call does, and that a wipe looks at no byte.
 pub mod Numbers
 pub mod Layout
 pub mod Nodes
@@ -10,3 +10,4 @@ pub mod Answer
 pub mod Limits
 pub mod Tests
 pub mod Calls
+pub mod Blind

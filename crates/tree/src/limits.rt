@@ -102,7 +102,7 @@ pub fn range_length(depth: u64, len: usize) -> Test
     Test::Passed
 }
 
-// 7: the nonces after the last one used suffice for one more write.
+// 7: the nonces after the last one used suffice for one more write or wipe.
 pub fn nonces_spent(depth: u64, last: Nonce) -> Test
     ensures { λ r. ⌜ r ≡ failing (spentLimit depth (last .0) .fails) ⌝ }
 {

@@ -38,13 +38,15 @@ static uint64_t call(enum call kind, struct outcome *o, uint64_t index) {
                          o->buffer.bytes, o->buffer.length, o->ranges.bytes, o->ranges.length);
     case CHECK:
         return pat_check(o->anchor.bytes, o->anchor.length, o->card.bytes, o->card.length);
+    case WIPE:
+        return pat_wipe(o->anchor.bytes, o->anchor.length, o->card.bytes, o->card.length);
     }
     return UINT64_MAX;
 }
 
 struct outcome perform(const struct arguments *a) {
     struct outcome o;
-    enum access changes = a->call == FORMAT || a->call == WRITE ? READ_WRITE : READ_ONLY;
+    enum access changes = a->call == READ || a->call == CHECK ? READ_ONLY : READ_WRITE;
     lend(&o.anchor, a->anchor, a->anchor_len, changes);
     lend(&o.card, a->card, a->card_len, changes);
     lend(&o.buffer, a->buffer, a->buffer_len, a->call == READ ? READ_WRITE : READ_ONLY);
@@ -116,6 +118,12 @@ void must_write(struct store *s, uint64_t index, const uint8_t *block) {
     struct arguments a = arguments_for(WRITE, s, index, block);
     struct outcome o = perform(&a);
     take_over(s, &o, "a write on an untouched card");
+}
+
+void must_wipe(struct store *s) {
+    struct arguments a = arguments_for(WIPE, s, 0, NULL);
+    struct outcome o = perform(&a);
+    take_over(s, &o, "a wipe");
 }
 
 void fill(uint8_t *bytes, size_t length, uint64_t seed) {

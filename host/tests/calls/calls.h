@@ -5,7 +5,7 @@
 #include "lent.h"
 #include "pat.h"
 
-enum call { FORMAT, READ, WRITE, CHECK };
+enum call { FORMAT, READ, WRITE, CHECK, WIPE };
 
 // What a call is given. buffer is a read's buffer or a write's new block.
 struct arguments {
@@ -48,8 +48,9 @@ void drop_store(struct store *store);
 struct arguments arguments_for(enum call call, const struct store *store, uint64_t index,
                                const uint8_t *block);
 
-// An accepted write: the store gets the anchor and the card that it left.
+// An accepted write or wipe: the store gets the anchor and the card that it left.
 void must_write(struct store *store, uint64_t index, const uint8_t *block);
+void must_wipe(struct store *store);
 
 // Ends the test where something does not hold.
 void expect(bool holds, const char *format, ...) __attribute__((format(printf, 2, 3)));

@@ -1,7 +1,9 @@
-// Small cards with every byte and every set of tags altered, and what each call then answers.
+// Small cards with every byte and every set of tags altered, and what each call then answers. To a
+// wipe it makes no difference.
 #include "calls.h"
 #include "tests.h"
 
+#include <stdlib.h>
 #include <string.h>
 
 enum { MOST_NODES = 16 };
@@ -82,7 +84,20 @@ static void try_call(const struct store *s, enum call call, uint64_t index, uint
     settle(&o);
 }
 
-static void try_calls(const struct store *s, uint32_t wrong, size_t byte) {
+// A wipe of the card as it is leaves what a wipe of the card before its damage did.
+static void try_wipe(const struct store *s, const struct store *wiped, size_t byte) {
+    struct arguments a = arguments_for(WIPE, s, 0, NULL);
+    struct outcome o = perform(&a);
+    expect(o.answer == 0, "byte %zu: a wipe looks at no tag", byte);
+    expect(memcmp(o.anchor.bytes, wiped->anchor, PAT_ANCHOR_BYTES) == 0 &&
+               memcmp(o.card.bytes, wiped->card, wiped->card_len) == 0,
+           "byte %zu: a wipe leaves the same", byte);
+    settle(&o);
+}
+
+static void try_calls(const struct store *s, const struct store *wiped, uint32_t wrong,
+                      size_t byte) {
+    try_wipe(s, wiped, byte);
     try_call(s, CHECK, 0, wrong, byte);
     for (uint64_t index = 0; index >> s->depth == 0; index++) {
         try_call(s, READ, index, wrong, byte);
@@ -90,10 +105,10 @@ static void try_calls(const struct store *s, uint32_t wrong, size_t byte) {
     }
 }
 
-static void try_bytes(struct store *s) {
+static void try_bytes(struct store *s, const struct store *wiped) {
     for (size_t byte = 0; byte < s->card_len; byte++) {
         s->card[byte] ^= (uint8_t)(1 << byte % 8);
-        try_calls(s, (uint32_t)1 << owner(s->depth, byte), byte);
+        try_calls(s, wiped, (uint32_t)1 << owner(s->depth, byte), byte);
         s->card[byte] ^= (uint8_t)(1 << byte % 8);
     }
 }
@@ -106,7 +121,7 @@ static void alter_tags(struct store *s, uint32_t nodes) {
 }
 
 // Every set of wrong tags; on the larger card every set of at most three.
-static void try_sets(struct store *s) {
+static void try_sets(struct store *s, const struct store *wiped) {
     uint32_t all = ((uint32_t)1 << (2u << s->depth)) - 4;
     for (uint32_t set = 0; set <= all; set += 4) {
         uint32_t rest = set & (set - 1);
@@ -114,12 +129,12 @@ static void try_sets(struct store *s) {
         if (s->depth == 3 && (rest & (rest - 1)) != 0)
             continue;
         alter_tags(s, set);
-        try_calls(s, set, 0);
+        try_calls(s, wiped, set, 0);
         alter_tags(s, set);
     }
 }
 
-// Every byte of the key and of T altered: nothing is accepted.
+// Every byte of the key and of T altered: no read, write or check is accepted.
 static void try_anchor(struct store *s) {
     for (size_t byte = 0; byte < PAT_ANCHOR_BYTES; byte++) {
         if (byte >= PAT_ANCHOR_DEPTH && byte < PAT_ANCHOR_ROOT)
@@ -137,6 +152,26 @@ static void try_anchor(struct store *s) {
     }
 }
 
+// The same store after a wipe.
+static struct store wiped_copy(const struct store *s) {
+    struct store copy = *s;
+    copy.card = malloc(s->card_len);
+    if (copy.card == NULL)
+        exit(2);
+    memcpy(copy.card, s->card, s->card_len);
+    must_wipe(&copy);
+    return copy;
+}
+
+static void try_store(struct store *s) {
+    struct store wiped = wiped_copy(s);
+    try_bytes(s, &wiped);
+    try_sets(s, &wiped);
+    try_anchor(s);
+    drop_store(&wiped);
+}
+
+// Cards after some writes, and the same just after a wipe.
 void test_flips(void) {
     for (unsigned depth = 1; depth <= 3; depth++) {
         struct store s = make_store(depth);
@@ -145,9 +180,9 @@ void test_flips(void) {
             fill(block, sizeof block, k);
             must_write(&s, k * 3 % ((uint64_t)1 << depth), block);
         }
-        try_bytes(&s);
-        try_sets(&s);
-        try_anchor(&s);
+        try_store(&s);
+        must_wipe(&s);
+        try_store(&s);
         drop_store(&s);
     }
 }

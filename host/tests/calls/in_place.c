@@ -72,8 +72,19 @@ static void flip(uint8_t *card, size_t card_len, size_t at) {
         card[at] ^= 4;
 }
 
-// A history of one depth: an accepted write goes on. A flip away from the path may be accepted; it
-// then stays, on both cards.
+// Wipes both cards, and the anchor by its bytes.
+static void wipe_both(struct pat_anchor *anchor, uint8_t *card, uint8_t *other, size_t card_len) {
+    uint8_t bytes[PAT_ANCHOR_BYTES], same[PAT_ANCHOR_BYTES];
+    pat_anchor_to_bytes(anchor, bytes);
+    memcpy(same, bytes, sizeof same);
+    expect(pat_wipe(bytes, sizeof bytes, card, card_len) == 0 &&
+               pat_wipe(same, sizeof same, other, card_len) == 0,
+           "both cards are wiped");
+    pat_anchor_from_bytes(anchor, bytes);
+}
+
+// A history of one depth, with a wipe in its middle: an accepted write goes on. A flip away from
+// the path may be accepted; it then stays, on both cards.
 static void history(unsigned depth, unsigned steps, unsigned seen[PAT_REFUSED_TAG + 1]) {
     struct store store = make_store(depth);
     struct pat_anchor anchor;
@@ -81,6 +92,8 @@ static void history(unsigned depth, unsigned steps, unsigned seen[PAT_REFUSED_TA
     pat_anchor_from_bytes(&anchor, store.anchor);
     memcpy(other, store.card, store.card_len);
     for (unsigned k = 0; k < steps; k++) {
+        if (k == steps / 2)
+            wipe_both(&anchor, store.card, other, store.card_len);
         struct given given = draw_given(&anchor, store.card_len);
         flip(store.card, store.card_len, given.flipped);
         flip(other, store.card_len, given.flipped);

@@ -6,9 +6,10 @@
 #include <stdlib.h>
 #include <string.h>
 
-enum kind { START = CHECK + 1 };
+enum kind { START = WIPE + 1 };
 
-// A call and what is left after it. argument: the new block, or the block that is read.
+// A call and what is left after it. argument: the new block, or the block that is read. index: of a
+// start, whether it is on last_card; of a wipe, what the card's other bytes are made from, or 0.
 struct row {
     const char *history;
     unsigned depth;
@@ -39,10 +40,9 @@ static uint64_t digest(const uint8_t *bytes, size_t length) {
 
 static struct store start(const struct row *row) {
     struct store s = make_store(row->depth);
-    if (row->root != 0) {
-        pat_put_number(s.anchor + PAT_ANCHOR_ROOT, row->root);
+    pat_put_number(s.anchor + PAT_ANCHOR_ROOT, row->root);
+    if (row->index != 0)
         unhex(s.card, last_card);
-    }
     return s;
 }
 
@@ -70,6 +70,8 @@ static void expect_left(const struct row *row, const struct store *s, const char
 static void follow(const struct row *row, struct store *s, const char *name) {
     uint8_t block[PAT_BLOCK_BYTES];
     unhex(block, row->argument);
+    if (row->call == WIPE && row->index != 0)
+        fill(s->card, s->card_len, row->index);
     struct arguments a = arguments_for((enum call)row->call, s, row->index, block);
     struct outcome o = perform(&a);
     expect(o.answer == 0, "%s: accepted, and not answered %llu", name,
@@ -77,6 +79,15 @@ static void follow(const struct row *row, struct store *s, const char *name) {
     expect_result(row, &o, name);
     memcpy(s->anchor, o.anchor.bytes, PAT_ANCHOR_BYTES);
     memcpy(s->card, o.card.bytes, s->card_len);
+    settle(&o);
+}
+
+static void expect_spent(const struct store *s, enum call call) {
+    static const uint8_t block[PAT_BLOCK_BYTES];
+    struct arguments a = arguments_for(call, s, 0, block);
+    struct outcome o = perform(&a);
+    expect(o.answer == PAT_REFUSED_SPENT && all_unchanged(&o),
+           "after the last root nonce call %d is refused", call);
     settle(&o);
 }
 
@@ -93,11 +104,7 @@ void test_known(void) {
         }
         expect_left(&rows[k], &s, name);
     }
-    uint8_t block[PAT_BLOCK_BYTES] = {0};
-    struct arguments a = arguments_for(WRITE, &s, 0, block);
-    struct outcome o = perform(&a);
-    expect(o.answer == PAT_REFUSED_SPENT && all_unchanged(&o),
-           "after the last root nonce a write is refused");
-    settle(&o);
+    expect_spent(&s, WRITE);
+    expect_spent(&s, WIPE);
     drop_store(&s);
 }

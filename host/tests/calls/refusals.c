@@ -120,6 +120,8 @@ struct fault {
     { "block length", 5, block_length }
 #define TAG                                                                                        \
     { "tag", 8, tag }
+#define SPENT                                                                                      \
+    { "spent", 7, spent }
 
 static const struct fault format_faults[] = {ANCHOR_LENGTH, DEPTH, CARD_LENGTH};
 static const struct fault read_faults[] = {ANCHOR_LENGTH, DEPTH,        ROOT_NONCE, CARD_LENGTH,
@@ -131,9 +133,10 @@ static const struct fault write_faults[] = {ANCHOR_LENGTH,
                                             BLOCK_NUMBER,
                                             BLOCK_LENGTH,
                                             {"range length", 6, range_length},
-                                            {"spent", 7, spent},
+                                            SPENT,
                                             TAG};
 static const struct fault check_faults[] = {ANCHOR_LENGTH, DEPTH, ROOT_NONCE, CARD_LENGTH, TAG};
+static const struct fault wipe_faults[] = {ANCHOR_LENGTH, DEPTH, ROOT_NONCE, CARD_LENGTH, SPENT};
 
 static const struct subject {
     const char *name;
@@ -141,11 +144,11 @@ static const struct subject {
     const struct fault *faults;
     size_t count;
 } subjects[] = {
-    {"format", FORMAT, format_faults, 3},
-    {"read", READ, read_faults, 7},
-    {"write", WRITE, write_faults, 9},
-    {"check", CHECK, check_faults, 5},
+    {"format", FORMAT, format_faults, 3}, {"read", READ, read_faults, 7},
+    {"write", WRITE, write_faults, 9},    {"check", CHECK, check_faults, 5},
+    {"wipe", WIPE, wipe_faults, 5},
 };
+enum { SUBJECTS = sizeof subjects / sizeof *subjects };
 
 // Spoils a draft with a set of faults, the last of them first, and gives the answer that is due.
 static uint64_t spoil_with(struct draft *d, const struct subject *subject, unsigned set,
@@ -209,7 +212,7 @@ void test_refusals(void) {
     static const unsigned depths[] = {1, 2, 3, 6};
     for (size_t k = 0; k < 4; k++) {
         struct store s = used_store(depths[k]);
-        for (const struct subject *subject = subjects; subject < subjects + 4; subject++)
+        for (const struct subject *subject = subjects; subject < subjects + SUBJECTS; subject++)
             for (unsigned set = 0; set < 1u << subject->count; set++)
                 for (size_t variant = 0; variant < (set & (set - 1) ? 3u : 16u); variant++)
                     if (!impossible(subject, set, depths[k]))
@@ -217,7 +220,7 @@ void test_refusals(void) {
         drop_store(&s);
     }
     struct store large = used_store(PAT_MAX_DEPTH);
-    for (const struct subject *subject = subjects; subject < subjects + 4; subject++)
+    for (const struct subject *subject = subjects; subject < subjects + SUBJECTS; subject++)
         for (unsigned k = 0; k < subject->count; k++)
             try_set(subject, &large, 1u << k, 5 * k);
     drop_store(&large);

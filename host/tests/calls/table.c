@@ -45,14 +45,15 @@ static void nonce_rows(void) {
     drop_store(&g);
 }
 
-// The refusal of a write to a card of depth 2 with this root nonce, card length and block number.
-static unsigned limit(uint64_t root, size_t card_len, uint64_t index) {
+// The refusal of a write or a wipe of a card of depth 2 with this root nonce, card length and block
+// number.
+static unsigned limit(enum call call, uint64_t root, size_t card_len, uint64_t index) {
     static const uint8_t block[PAT_BLOCK_BYTES];
     static uint8_t longer[512];
     struct store s = make_store(2);
     memcpy(longer, s.card, s.card_len);
     pat_put_number(s.anchor + PAT_ANCHOR_ROOT, root);
-    struct arguments a = arguments_for(WRITE, &s, index, block);
+    struct arguments a = arguments_for(call, &s, index, block);
     a.card = longer;
     a.card_len = card_len;
     struct outcome o = perform(&a);
@@ -62,6 +63,15 @@ static unsigned limit(uint64_t root, size_t card_len, uint64_t index) {
     return refusal;
 }
 
+// What writes and wipes have in common.
+static void limit_rows(enum call call) {
+    expect(limit(call, UINT64_MAX - 1, 368, 0) == 7, "row h: 2^64 - 2 is spent");
+    expect(limit(call, 3, 368, 0) == 2, "row i");
+    expect(limit(call, 0, 367, 0) == 3 && limit(call, 0, 368, 0) == 0 &&
+               limit(call, 0, 369, 0) == 3,
+           "row j");
+}
+
 void test_table(void) {
     expect(pat_card_bytes(1) == 160, "row a");
     expect(pat_card_bytes(16) == 6815696, "row b");
@@ -69,10 +79,10 @@ void test_table(void) {
     ranges_row('d', 3, 5, (const uint32_t[]){8, 16, 24, 24, 96, 24, 128, 16, 528, 16, 544, 80});
     ranges_row('e', 1, 0, (const uint32_t[]){0, 80, 144, 16});
     nonce_rows();
-    expect(limit(UINT64_MAX - 3, 368, 0) == 8,
+    expect(limit(WRITE, UINT64_MAX - 3, 368, 0) == 8,
            "row h: 2^64 - 4 is within the limits, and not the card's root nonce");
-    expect(limit(UINT64_MAX - 1, 368, 0) == 7, "row h: 2^64 - 2 is spent");
-    expect(limit(3, 368, 0) == 2, "row i");
-    expect(limit(0, 367, 0) == 3 && limit(0, 368, 0) == 0 && limit(0, 369, 0) == 3, "row j");
-    expect(limit(0, 368, 3) == 0 && limit(0, 368, 4) == 4, "row k");
+    expect(limit(WIPE, UINT64_MAX - 3, 368, 0) == 0, "row h: a wipe needs no such card");
+    limit_rows(WRITE);
+    limit_rows(WIPE);
+    expect(limit(WRITE, 0, 368, 3) == 0 && limit(WRITE, 0, 368, 4) == 4, "row k");
 }

@@ -3,11 +3,14 @@
 //
 // FAULT_LOG names the file for the list. FAULT is "CALL:COUNT:ACTION": at that call of the name,
 // counted from 1, ACTION "cut" ends the process before it does anything, "signal" with a number
-// behind it sends that signal and goes on, and a number is the errno that the call fails with.
+// behind it sends that signal and goes on, and a number is the errno that the call fails with. A
+// pwrite can also be "torn", which cuts the process off behind that many of its bytes, or "short",
+// which writes no more and goes on.
 #include <errno.h>
 #include <fcntl.h>
 #include <signal.h>
 #include <stdarg.h>
+#include <stdint.h>
 #include <stdio.h>
 #include <stdlib.h>
 #include <string.h>
@@ -27,6 +30,10 @@ static void note(const char *format, ...) {
     close(file);
 }
 
+// What a torn or short call writes at most.
+static size_t most = SIZE_MAX;
+static int torn;
+
 // Whether this call is to fail; errno is then set. A cut does not return.
 static int fails(const char *name) {
     static int counts[8];
@@ -45,6 +52,11 @@ static int fails(const char *name) {
         _exit(99);
     if (strncmp(action, ":signal", 7) == 0)
         return kill(getpid(), atoi(action + 7));
+    torn = strncmp(action, ":torn", 5) == 0;
+    if (torn || strncmp(action, ":short", 6) == 0) {
+        most = (size_t)atoi(action + (torn ? 5 : 6));
+        return 0;
+    }
     errno = atoi(action + 1);
     return 1;
 }
@@ -88,7 +100,11 @@ ssize_t pwrite(int file, const void *bytes, size_t length, off_t place) {
     if (fails("pwrite"))
         return -1;
     note("pwrite %s %lld %zu\n", name_of(file), (long long)place, length);
-    return syscall(SYS_pwrite64, file, bytes, length, place);
+    ssize_t count = syscall(SYS_pwrite64, file, bytes, length < most ? length : most, place);
+    if (torn)
+        _exit(99);
+    most = SIZE_MAX;
+    return count;
 }
 
 ssize_t write(int file, const void *bytes, size_t length) {

@@ -28,6 +28,11 @@ uint64_t pat_write(uint8_t *anchor, size_t anchor_len, uint8_t *card, size_t car
     return odd_answer();
 }
 
+uint64_t pat_wipe(uint8_t *anchor, size_t anchor_len, uint8_t *card, size_t card_len) {
+    (void)anchor, (void)anchor_len, (void)card, (void)card_len;
+    return odd_answer();
+}
+
 uint64_t pat_check(const uint8_t *anchor, size_t anchor_len, const uint8_t *card, size_t card_len) {
     (void)anchor, (void)anchor_len, (void)card, (void)card_len;
     const char *own = getenv("CHECK_ANSWER");

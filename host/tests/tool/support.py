@@ -23,10 +23,18 @@ FAULTS = os.environ.get("FAULTS") and Path(os.environ["FAULTS"]).resolve()
 ODD = os.environ.get("ODD") and Path(os.environ["ODD"]).resolve()
 KEY = bytes(range(0x40, 0x50))
 NOBODY = 65534
-USAGE, DATA, LIBRARY, FILE = 64, 65, 70, 74
+USAGE, DATA, LIBRARY, FILE, UNCONFIRMED = 64, 65, 70, 74, 77
+CUT = 99
 
 
 atexit.register(lambda: print(f"{TOOL.parent.name}/{TOOL.name}: {ToolCase.runs} runs", flush=True))
+
+
+def wiped(key, depth, root):
+    """The card that a wipe to this root nonce leaves."""
+    card = Card(key, depth, root - depth)
+    card.wipe()
+    return card
 
 
 def block(text):
@@ -155,6 +163,15 @@ class ToolCase(unittest.TestCase):
             self.give(path, NOBODY, NOBODY)
         return {"program": program, "user": NOBODY, "group": NOBODY, "extra_groups": []}
 
+    def replace_both(self):
+        """What another process does while it has the lock."""
+        self.model.write(4, block("meanwhile"))
+        fresh = self.room / "fresh"
+        fresh.write_bytes(self.model.anchor())
+        fresh.chmod(0o600)
+        fresh.rename(self.anchor)
+        self.card.write_bytes(self.model.bytes)
+
     def wait_behind_a_lock(self, kind, words, meanwhile):
         """Starts a command while the anchor file is locked; it must wait until that ends."""
         with open(self.anchor, "rb") as held:
@@ -167,3 +184,31 @@ class ToolCase(unittest.TestCase):
         output = process.stdout.read()
         process.stdout.close()
         return output
+
+
+@unittest.skipUnless(FAULTS, "nothing can be preloaded before the sanitizers: cuts and failing calls are tried on the plain tool")
+class FaultCase(ToolCase):
+    """Runs that are cut off or whose calls fail, on two files of which self.old has the bytes."""
+
+    def run_with(self, fault, *words, **options):
+        environment = dict(os.environ, LD_PRELOAD=str(FAULTS), FAULT_LOG=str(self.room / "log"), FAULT=fault)
+        return self.tool(*words, env=environment, **options)
+
+    def both(self):
+        return self.card.read_bytes(), self.anchor.read_bytes()
+
+    def start_again(self):
+        self.card.write_bytes(self.old[0])
+        self.anchor.write_bytes(self.old[1])
+
+    def failing(self, fault, number, *words):
+        done = self.run_with(f"{fault}:{number}", *words)
+        self.assertEqual((done.returncode, done.stdout), (FILE, b""), fault)
+        self.assertIn(os.strerror(number), done.stderr.decode())
+        return done.stderr.decode()
+
+    def signalled(self, fault, number, *words):
+        """The return code of a run that gets the signal at a step; in a session of its own no signal stops it."""
+        done = self.run_with(f"{fault}:signal{number}", *words, start_new_session=True)
+        self.said = done.stderr.decode()
+        return done.returncode

@@ -5,10 +5,11 @@ import json
 import re
 import unittest
 
-from support import KEY, Card, ToolCase, block, entry
+from support import KEY, Card, ToolCase, block, entry, wiped
 
-BACK = "put back the card as format or the last write left it"
+BACK = "put back the card as format, write or wipe last left it"
 ANEW = "format another card with a new key and write the rounds there"
+WIPE = "only where a wipe was cut, or no round on this card is wanted any more, wipe it: that empties all its blocks"
 TIME = " (a card of another time than its anchor is refused here)"
 
 
@@ -31,7 +32,7 @@ class Advice(ToolCase):
         index = node - 2**card.depth
         remark = TIME if node < 4 else ""
         if index < 0:
-            return f"{BACK}{remark}; no write mends it: else {ANEW}"
+            return f"{BACK}{remark}; no write mends it: else {ANEW}; {WIPE}"
         hindrance = self.write_refused_at(card, index)
         if hindrance is None and written is not None:
             return f"{BACK}, or write block {index} first and then block {written}"
@@ -39,8 +40,8 @@ class Advice(ToolCase):
             return f"{BACK}, or write block {index} again"
         if hindrance == node ^ 1:
             low, high = sorted((index, index ^ 1))
-            return f"{BACK}{remark}; no write mends blocks {low} and {high}, since each needs the other one right: else {ANEW}"
-        return f"{BACK}; no write mends block {index}, since node {hindrance} is wrong too: else {ANEW}"
+            return f"{BACK}{remark}; no write mends blocks {low} and {high}, since each needs the other one right: else {ANEW}; {WIPE}"
+        return f"{BACK}; no write mends block {index}, since node {hindrance} is wrong too: else {ANEW}; {WIPE}"
 
     def told(self, *words):
         done = self.tool(words[0], "--json", *words[1:])
@@ -59,6 +60,17 @@ class Advice(ToolCase):
             return
         self.assertTrue(self.told("write", "--text", "mended", *words[-3:-1], named.group(1))["accepted"], words)
         self.assertTrue(self.told(*words)["accepted"], words)
+
+    def follow_to_the_wipe(self, card, report):
+        """Where no write mends the card, a wipe does, and it is named behind all that keeps the rounds."""
+        self.assertEqual("wipe it" in report["advice"], "no write mends" in report["advice"])
+        if "wipe it" not in report["advice"]:
+            return
+        self.assertTrue(report["advice"].endswith(f"{ANEW}; {WIPE}") and report["advice"].startswith(BACK))
+        self.put(card)
+        self.accepted("wipe", "--yes", self.anchor, self.card)
+        self.accepted("check", self.anchor, self.card)
+        self.both_equal(wiped(KEY, card.depth, card.root + card.depth))
 
     def test_every_set_of_wrong_tags(self):
         for depth in (1, 2):
@@ -93,6 +105,7 @@ class Advice(ToolCase):
                 self.put(card)
                 report = self.told("check", self.anchor, self.card)
                 self.assertEqual(report["advice"], self.expected(card, min(wrong)))
+                self.follow_to_the_wipe(card, report)
 
     def test_both_blocks_of_a_pair(self):
         self.put(self.damaged(3, (12, 13)))

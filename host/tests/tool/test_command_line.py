@@ -11,10 +11,11 @@ COMMANDS = {
     "format": ["--depth", "--key-file", "--force"],
     "read": ["--output", "--text", "--hex"],
     "write": ["--input", "--text"],
+    "wipe": ["--yes"],
     "check": ["--all", "--picture"],
     "show": [],
 }
-WORDS = {"format": 2, "read": 3, "write": 3, "check": 2, "show": 2}
+WORDS = {"format": 2, "read": 3, "write": 3, "wipe": 2, "check": 2, "show": 2}
 
 
 class CommandLine(ToolCase):
@@ -25,7 +26,7 @@ class CommandLine(ToolCase):
                 line = re.search(rf"^  roundcard {command} .*$", output, re.MULTILINE).group()
                 for option in options:
                     self.assertIn(option, line)
-            for status in (1, 2, 3, 4, 5, 7, 8, 64, 65, 70, 74):
+            for status in (1, 2, 3, 4, 5, 7, 8, 64, 65, 70, 74, 77):
                 self.assertRegex(output, rf"(?m)^ +{status}  ")
             for who in ("the calling software", "the anchor", "whoever has the card"):
                 self.assertIn(who, output)
@@ -44,6 +45,13 @@ class CommandLine(ToolCase):
         output = " ".join(self.accepted("help", "write").decode().split())
         self.assertIn("A cut before the new anchor file is in place changes nothing.", output)
         self.assertIn("a check refuses it with 8", output)
+
+    def test_wipe_says_what_is_lost_and_what_a_cut_leaves(self):
+        output = " ".join(self.accepted("help", "wipe").decode().split())
+        for part in ("Every round on it is lost", "no earlier copy of the card will be accepted again"):
+            self.assertIn(part, output)
+        self.assertIn("A cut before the new anchor file is in place changes nothing.", output)
+        self.assertIn("Wipe it again: that mends it, whatever the cut left.", output)
 
     def test_version(self):
         self.assertRegex(self.accepted("--version"), rb"^roundcard \d+\.\d+\.\d+\n$")
@@ -84,6 +92,8 @@ class CommandLine(ToolCase):
         self.fails(USAGE, "format", "a", "c", "--depth", says=["--depth needs a value"])
         self.fails(USAGE, "read", "a", "c", "1", "--hex=yes", says=["--hex takes no value"])
         self.fails(USAGE, "check", "a", "c", "--all", "--all", says=["--all is given twice"])
+        self.fails(USAGE, "wipe", "a", "c", "--yes", "--yes", says=["--yes is given twice"])
+        self.fails(USAGE, "wipe", "a", "c", "--yes=no", says=["--yes takes no value"])
         self.fails(USAGE, "check", "a", "c", "--wait=1", "--wait=1", says=["--wait is given twice"])
         for seconds in ("", "x", "-1", "1.5", "18446744073709551616"):
             self.fails(USAGE, "show", "a", "--wait", seconds, says=["is not a number of seconds"])
@@ -102,6 +112,7 @@ class CommandLine(ToolCase):
             options = {"program": ODD, "env": dict(os.environ, ANSWER=str(answer))}
             self.fails(LIBRARY, "read", *last, "1", says=[f"unknown answer, {answer}"], **options)
             self.fails(LIBRARY, "write", *last, "1", "--text", "x", **options)
+            self.fails(LIBRARY, "wipe", "--yes", *last, **options)
             self.fails(LIBRARY, "check", *last, **options)
             self.fails(LIBRARY, "check", "--all", *last, **options)
             self.fails(LIBRARY, "format", "--depth=2", "a", "c", **options)

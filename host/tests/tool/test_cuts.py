@@ -2,18 +2,14 @@
 
 import errno
 import json
-import os
 import signal
 import stat
 import unittest
 
-from support import FAULTS, FILE, ToolCase, block
-
-CUT = 99
+from support import CUT, FaultCase, block
 
 
-@unittest.skipUnless(FAULTS, "nothing can be preloaded before the sanitizers: cuts and failing calls are tried on the plain tool")
-class Cuts(ToolCase):
+class Cuts(FaultCase):
     def setUp(self):
         super().setUp()
         self.model = self.made(3, [(5, "the old round"), (2, "another")])
@@ -21,17 +17,6 @@ class Cuts(ToolCase):
         self.model.write(5, block("the new round"))
         self.new = bytes(self.model.bytes), self.model.anchor()
         self.words = "write", "--text", "the new round", self.anchor, self.card, "5"
-
-    def run_with(self, fault, *words, **options):
-        environment = dict(os.environ, LD_PRELOAD=str(FAULTS), FAULT_LOG=str(self.room / "log"), FAULT=fault)
-        return self.tool(*words, env=environment, **options)
-
-    def both(self):
-        return self.card.read_bytes(), self.anchor.read_bytes()
-
-    def start_again(self):
-        self.card.write_bytes(self.old[0])
-        self.anchor.write_bytes(self.old[1])
 
     def test_steps_of_a_write(self):
         self.assertEqual(self.run_with("", *self.words).returncode, 0)
@@ -79,7 +64,7 @@ class Cuts(ToolCase):
                 self.assertEqual(self.accepted(*words), bytes(whole[144 + 80 * index :][:64]))
             else:
                 self.refused(8, *words, node=node)
-        self.assertEqual(self.report("show", self.anchor)["writes"], 3)
+        self.assertEqual(self.report("show", self.anchor)["changes"], 3)
         self.model.bytes = whole
 
     def test_what_a_write_mends_after_a_cut(self):
@@ -102,12 +87,6 @@ class Cuts(ToolCase):
             self.assertEqual(self.both(), self.new)
             self.start_again()
 
-    def failing(self, fault, number, *words):
-        done = self.run_with(f"{fault}:{number}", *words)
-        self.assertEqual((done.returncode, done.stdout), (FILE, b""), fault)
-        self.assertIn(os.strerror(number), done.stderr.decode())
-        return done.stderr.decode()
-
     def test_failures_before_the_anchor_is_in_place(self):
         for fault in ("write:1", "fsync:1", "rename:1"):
             for number in (errno.EIO, errno.ENOSPC):
@@ -124,12 +103,6 @@ class Cuts(ToolCase):
             self.assertIn("could not be written whole", message)
             self.assertEqual(self.anchor.read_bytes(), self.new[1])
             self.start_again()
-
-    def signalled(self, fault, number, *words):
-        """The return code of a run that gets the signal at a step; in a session of its own no signal stops it."""
-        done = self.run_with(f"{fault}:signal{number}", *words, start_new_session=True)
-        self.said = done.stderr.decode()
-        return done.returncode
 
     def test_every_signal_waits_for_the_card(self):
         silent = {signal.SIGCHLD, signal.SIGCONT, signal.SIGURG, signal.SIGWINCH, signal.SIGXFSZ, signal.SIGPIPE}

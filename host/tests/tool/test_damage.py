@@ -3,7 +3,7 @@
 import os
 import unittest
 
-from support import FILE, KEY, Card, ToolCase, block, entry
+from support import FILE, KEY, Card, ToolCase, block, entry, wiped
 
 
 class Damage(ToolCase):
@@ -15,13 +15,15 @@ class Damage(ToolCase):
         self.put(self.model)
 
     def commands(self, block_number="5"):
-        """The commands that need anchor and card, each with good words."""
+        """The commands that look at tags, each with good words."""
         yield "read", self.anchor, self.card, block_number
         yield "write", "--text", "x", self.anchor, self.card, block_number
         yield "check", self.anchor, self.card
 
-    def with_show(self):
+    def every(self):
+        """All that need anchor and card."""
         yield from self.commands()
+        yield "wipe", "--yes", self.anchor, self.card
         yield "show", self.anchor, self.card
 
     def alter(self, path, change):
@@ -32,7 +34,7 @@ class Damage(ToolCase):
     def test_missing(self):
         for path, name in ((self.anchor, "the anchor file"), (self.card, "the card image")):
             aside = path.rename(self.room / "aside")
-            for words in self.with_show():
+            for words in self.every():
                 self.fails(FILE, *words, says=[f"cannot open {name} {path}", "No such file or directory"])
             aside.rename(path)
 
@@ -40,7 +42,7 @@ class Damage(ToolCase):
         for path in (self.anchor, self.card):
             aside = path.rename(self.room / "aside")
             path.mkdir()
-            for words in self.with_show():
+            for words in self.every():
                 self.fails(FILE, *words, says=[str(path), "Is a directory"])
             path.rmdir()
             aside.rename(path)
@@ -49,11 +51,11 @@ class Damage(ToolCase):
         for path in (self.anchor, self.card):
             aside = path.rename(self.room / "aside")
             os.mkfifo(path)
-            for words in self.with_show():
+            for words in self.every():
                 self.fails(FILE, *words, says=[str(path), "not a regular file"])
             path.unlink()
             path.symlink_to("/dev/zero")
-            for words in self.with_show():
+            for words in self.every():
                 self.fails(FILE, *words, says=[str(path), "not a regular file"])
             path.unlink()
             aside.rename(path)
@@ -63,7 +65,7 @@ class Damage(ToolCase):
         for path in (self.anchor, self.card):
             mode = path.stat().st_mode
             path.chmod(0)
-            for words in self.with_show():
+            for words in self.every():
                 self.fails(FILE, *words, says=[str(path), "Permission denied"], **options)
             path.chmod(mode)
 
@@ -76,14 +78,14 @@ class Damage(ToolCase):
         for data in (b"", right[:1], right[:31], right + b"\0", right + right, bytes(100000)):
             self.anchor.write_bytes(data)
             says = ["the anchor file has more than 32" if len(data) > 32 else f"the anchor file has {len(data)} bytes, and not 32"]
-            for words in self.with_show():
+            for words in self.every():
                 self.refused(5, *words, says=says)
 
     def test_card_of_another_length(self):
         right = self.card.read_bytes()
         for data in (b"", right[:1], right[:783], right + b"\0", right + right, right[:368]):
             self.card.write_bytes(data)
-            for words in self.with_show():
+            for words in self.every():
                 self.refused(3, *words, says=[f"has {len(data)} bytes, and a card of depth 3 has 784"])
 
     def test_endless_card(self):
@@ -98,22 +100,33 @@ class Damage(ToolCase):
     def test_depth_in_the_anchor(self):
         for depth, number in ((0, 1), (17, 1), (2**32 + 3, 1), (2**63, 1), (1, 3), (9, 3)):
             self.alter(self.anchor, lambda data: data.__setitem__(slice(16, 24), depth.to_bytes(8, "big")))
-            for words in self.with_show():
+            for words in self.every():
                 self.refused(number, *words)
         self.alter(self.anchor, lambda data: data.__setitem__(slice(16, 24), (2).to_bytes(8, "big")))
-        for words in self.with_show():
+        for words in self.every():
             self.refused(2, *words, says=["T is 9, no multiple of the depth 2"])
 
     def test_root_nonce_in_the_anchor(self):
         for root in (8, 10, 2**64 - 2):
             self.alter(self.anchor, lambda data: data.__setitem__(slice(24, 32), root.to_bytes(8, "big")))
-            for words in self.with_show():
+            for words in self.every():
                 self.refused(2, *words, says=[f"T is {root}"])
         for root in (0, 6, 12, 3 * 2**60):
             self.alter(self.anchor, lambda data: data.__setitem__(slice(24, 32), root.to_bytes(8, "big")))
             for words in self.commands():
                 self.refused(8, *words, node=2 if words[0] == "check" else 3)
             self.accepted("show", self.anchor, self.card)
+
+    def test_wipe_mends_what_the_others_refuse(self):
+        cards = [bytes(784), b"\xff" * 784, os.urandom(784), self.old[0], bytes(Card(bytes(16), 3).bytes)]
+        for data in cards:
+            self.card.write_bytes(data)
+            for words in self.commands():
+                self.assertEqual(self.tool(*words).returncode, 8)
+            self.accepted("wipe", "--yes", self.anchor, self.card)
+            self.model = wiped(KEY, 3, self.model.root + 3)
+            self.both_equal(self.model)
+            self.accepted("check", "--all", self.anchor, self.card)
 
     def test_anchor_of_another_key(self):
         for byte in range(16):

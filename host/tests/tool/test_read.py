@@ -181,10 +181,11 @@ class Read(ToolCase):
         for words in ([self.anchor], [self.anchor, self.card]):
             output = self.accepted("show", *words).decode()
             lines = {line[:14].strip(): line[14:] for line in output.splitlines()}
-            expected = {"depth": "3", "blocks": "8, numbers 0 to 7", "root nonce T": "15", "writes made": "5", "card size": "784 bytes"}
+            expected = {"depth": "3", "blocks": "8, numbers 0 to 7", "root nonce T": "15"}
+            expected.update({"changes made": "5, writes and wipes together", "card size": "784 bytes"})
             self.assertEqual(lines, expected)
             report = self.report("show", *words)
-            expected = {"depth": 3, "blocks": 8, "root_nonce": 15, "writes": 5, "card_bytes": 784}
+            expected = {"depth": 3, "blocks": 8, "root_nonce": 15, "changes": 5, "card_bytes": 784}
             self.assertEqual({name: report[name] for name in expected}, expected)
             for word in (KEY.hex(), KEY.decode()):
                 self.assertNotIn(word, output + str(report))

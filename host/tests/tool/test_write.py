@@ -46,7 +46,7 @@ class Write(ToolCase):
             before = self.card.read_bytes()
             report = self.report("write", "--text", "x", self.anchor, self.card, str(index))
             self.assertEqual(report["ranges"], [list(pair) for pair in self.model.ranges(index)])
-            self.assertEqual((report["block"], report["root_nonce"], report["writes"]), (index, depth, 1))
+            self.assertEqual((report["block"], report["root_nonce"], report["changes"]), (index, depth, 1))
             after = self.card.read_bytes()
             places = {k for start, length in report["ranges"] for k in range(start, start + length)}
             changed = {k for k in range(len(before)) if before[k] != after[k]}
@@ -155,7 +155,8 @@ class Write(ToolCase):
 
     def test_swapped_files(self):
         last = self.card, self.anchor
-        for words in (["write", "--text", "x", *last, "1"], ["read", *last, "1"], ["check", *last], ["check", "--all", *last]):
+        commands = ["write", "--text", "x", *last, "1"], ["read", *last, "1"], ["wipe", "--yes", *last], ["check", *last], ["check", "--all", *last]
+        for words in commands:
             says = ["the anchor file has 784 bytes, as a card image has, and the card image has 32", "swapped", "give ANCHOR first"]
             self.refused(5, *words, says=says)
             self.assertNotIn("chmod", self.said)
@@ -256,7 +257,7 @@ class Write(ToolCase):
         words = [[TOOL, "write", "--text", f"round {k}", self.anchor, self.card, str(k % 8)] for k in range(24)]
         running = [subprocess.Popen(word, stdout=subprocess.DEVNULL) for word in words]
         self.assertEqual([process.wait(60) for process in running], [0] * 24)
-        self.assertEqual(self.report("show", self.anchor)["writes"], 24)
+        self.assertEqual(self.report("show", self.anchor)["changes"], 24)
         self.accepted("check", self.anchor, self.card)
 
     def test_reads_between_writes(self):
@@ -264,15 +265,6 @@ class Write(ToolCase):
         words = [["write", "--text", "x", *last, "1"], ["read", *last, "6"], ["check", *last]]
         running = [subprocess.Popen([TOOL, *words[k % 3]], stdout=subprocess.DEVNULL) for k in range(36)]
         self.assertEqual([process.wait(60) for process in running], [0] * 36)
-
-    def replace_both(self):
-        """What another process does while it has the lock."""
-        self.model.write(4, block("meanwhile"))
-        fresh = self.room / "fresh"
-        fresh.write_bytes(self.model.anchor())
-        fresh.chmod(0o600)
-        fresh.rename(self.anchor)
-        self.card.write_bytes(self.model.bytes)
 
     def test_write_waits_and_takes_the_new_anchor(self):
         words = ["write", "--text", "after", self.anchor, self.card, "1"]

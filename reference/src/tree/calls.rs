@@ -1,4 +1,5 @@
-//! "Calls": format, read, write and check. Each tests first, so that a refused call has changed nothing.
+//! "Calls": format, read, write and check, and the wipe of request T-01. Each tests first, so that a refused call has changed
+//! nothing.
 
 use super::words::{Anchor, Answer, BlockIndex, Node, Refusal};
 use super::{layout, limits, messages, paths, ranges};
@@ -27,13 +28,24 @@ pub fn format(key: &[u8; 16], depth: u64, card: &mut [u8]) -> Answer {
         depth,
         root: 0,
     };
-    for node in layout::nodes(depth) {
-        card[layout::label(depth, node)].fill(0);
-    }
-    for node in layout::nodes(depth) {
-        messages::put_tag(&anchor, card, node);
-    }
+    empty(&anchor, card);
     Answer::Accepted(anchor)
+}
+
+/// Zeroes every block, gives every inner node the root's nonce, and then every node its tag.
+fn empty(anchor: &Anchor, card: &mut [u8]) {
+    let depth = anchor.depth;
+    for node in layout::nodes(depth) {
+        let label = &mut card[layout::label(depth, node)];
+        if layout::is_leaf(depth, node) {
+            label.fill(0);
+        } else {
+            label.copy_from_slice(&anchor.root.to_be_bytes());
+        }
+    }
+    for node in layout::nodes(depth) {
+        messages::put_tag(anchor, card, node);
+    }
 }
 
 /// Read: the buffer gets the block if every tag on its path is right.
@@ -107,6 +119,19 @@ fn write_card(anchor: &Anchor, card: &mut [u8], index: BlockIndex, block: &[u8])
         messages::put_tag(&after, card, node.sibling());
     }
     after
+}
+
+/// Wipe: an empty card under the same key, whose nonces are all the next root nonce. No tag on the card is looked at.
+pub fn wipe(anchor: &Anchor, card: &mut [u8]) -> Answer {
+    let tested = limits::wipe(anchor, card).map(|()| {
+        let after = Anchor {
+            root: anchor.root + anchor.depth,
+            ..*anchor
+        };
+        empty(&after, card);
+        after
+    });
+    tested.into()
 }
 
 /// Check: every tag on the card, from node 2 upwards.

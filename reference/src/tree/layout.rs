@@ -28,7 +28,7 @@ pub fn nodes(depth: u64) -> impl Iterator<Item = Node> {
 }
 
 /// Whether the node is a leaf.
-fn is_leaf(depth: u64, node: Node) -> bool {
+pub fn is_leaf(depth: u64, node: Node) -> bool {
     node.0 >= blocks(depth)
 }
 

@@ -69,6 +69,14 @@ pub fn check(anchor: &Anchor, card: &[u8]) -> Test {
     card_length(anchor.depth, card)
 }
 
+/// The limits of a wipe.
+pub fn wipe(anchor: &Anchor, card: &[u8]) -> Test {
+    depth(anchor.depth)?;
+    root_nonce(anchor)?;
+    card_length(anchor.depth, card)?;
+    nonces_left(anchor)
+}
+
 /// The limits of a read; gives the index that passed.
 pub fn read(
     anchor: &Anchor,

@@ -3,7 +3,6 @@ use mathlib.Core.List.{List}
 use mathlib.Core.Option.{none}
 use Prim.Native.Nat.{ℕ}
 use denote.Ref.{now}
-use native.Mathlib.Omega.{arith}
 use Rattle.cmac.specs.Cmac.{cmacOf}
 use Rattle.cmac.proofs.Laws.{tags-of-context}
 use Rattle.tree.specs.Nodes.{pairsButLeaf}
@@ -70,8 +69,8 @@ fill-requires c κs =
     let p = limits-passed (start (checked (c .before .before .before .before))) in
     ((p .sound .deep, p .sound .shallow), (p .inside, p .room))
 
-add-t29 : tie.Need-add-t29
-add-t29 c = omega (arith, limits-passed (start (checked (c .before .before .before .before .before .before .before .before))) .unspent)
+moved-requires : tie.Need-moved-requires
+moved-requires c κs = limits-passed (start (checked (c .before .before .before .before .before .before .before))) .unspent
 
 returns-2 : tie.Need-returns-2
 returns-2 c =
@@ -85,13 +84,13 @@ returns-2 c =
     ∙ ap (λ (F : List ℕ → List ℕ). written F (s .anchor .depth) (s .anchor .root .0) (s .anchor .root .0) (now (s .card)) (s .index .0)
     (now (s .block)))
     (tags-of-context (s .anchor .key) (context .context-of .result) (context .context-of .ensures)) in
-    gives-write (cmacOf (s .anchor .key)) (s .anchor) (now (s .card)) (s .index .0) (now (s .block)) (now (s .ranges)) _ _
-    (rw (told .enum-told .given .1) at (decided pairs-of)) made (filled .fill .ensures)
+    gives-write (cmacOf (s .anchor .key)) (s .anchor) (now (s .card)) (s .index .0) (now (s .block)) (now (s .ranges)) _ _ _
+    (rw (told .enum-told .given .1) at (decided pairs-of)) (c .moved .ensures) made (filled .fill .ensures)
 
 pub write-spec : {M : Type 1} → statement M
 write-spec =
     tie.close
     (tie.spec
     (λ c κs. search needs) (λ c κs. search needs) pairs-requires (λ c. search needs)
-    (λ c. search needs) returns block-requires fill-requires add-t29
+    (λ c. search needs) returns block-requires fill-requires moved-requires
     (λ c. search needs) (λ c. search needs) returns-2)

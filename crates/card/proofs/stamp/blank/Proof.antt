@@ -10,7 +10,8 @@ use Rattle.cmac.specs.Context.{tagUnder}
 use Rattle.tree.specs.Nodes.{upTo, allNodes}
 use Rattle.tree.specs.Labels.{blankLabels}
 use Rattle.tree.specs.Card.{stamped, blanked}
-use Rattle.card.proofs.StampLaws.{same-card, stamped-length, blank-more}
+use Rattle.tree.proofs.CardLaws.{length-stamped}
+use Rattle.card.proofs.StampLaws.{same-card, blank-more}
 use borrow.Author.Needs.{needs}
 use Rattle.card.proofs.stamp.blank.Statement.{statement}
 use Rattle.card.proofs.stamp.blank.Tie as tie
@@ -27,7 +28,7 @@ kept : (c : tie.At-loop Inv-loop μ-loop) → length (c .loop .card) ≡ length 
 kept c =
     let a = c .before .before .before .before .args in
     ap length (c .loop .inv .1)
-    ∙ stamped-length (tagUnder (now (a .schedule)) (now (a .subkeys))) (a .depth) (blankLabels (a .depth) (a .nonce .0)) _ (now (a .card))
+    ∙ length-stamped (tagUnder (now (a .schedule)) (now (a .subkeys))) (a .depth) (blankLabels (a .depth) (a .nonce .0)) _ (now (a .card))
 
 loop-holds : tie.Need-loop-holds Inv-loop μ-loop
 unfolding stamped upTo

@@ -12,7 +12,8 @@ use Rattle.tree.specs.Nodes.{upTo, sibling, pair, pairs}
 use Rattle.tree.specs.Labels.{labels, newLabels}
 use Rattle.tree.specs.Card.{stamped, written}
 use Rattle.tree.proofs.LayoutLaws.{few-leaves}
-use Rattle.card.proofs.StampLaws.{same-card, stamped-length, u-node, v-node, write-more}
+use Rattle.tree.proofs.CardLaws.{length-stamped}
+use Rattle.card.proofs.StampLaws.{same-card, u-node, v-node, write-more}
 use borrow.Author.Needs.{needs}
 use Rattle.card.proofs.stamp.block.Statement.{statement}
 use Rattle.card.proofs.stamp.block.Tie as tie
@@ -29,7 +30,7 @@ abbrev μ-loop : tie.MeasureT-loop
 kept : (c : tie.At-loop Inv-loop μ-loop) → length (c .loop .card) ≡ length (now (c .before .before .before .before .args .card))
 kept c =
     let a = c .before .before .before .before .args in
-    ap length (c .loop .inv .1 0) ∙ stamped-length (tagUnder (now (a .schedule)) (now (a .subkeys))) (a .depth) _ _ (now (a .card))
+    ap length (c .loop .inv .1 0) ∙ length-stamped (tagUnder (now (a .schedule)) (now (a .subkeys))) (a .depth) _ _ (now (a .card))
 
 on-path : (c : tie.After-node Inv-loop μ-loop)
     → IsNode (c .before .before .before .before .before .before .before .args .depth) (c .node .result .0)

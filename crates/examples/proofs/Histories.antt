@@ -1,0 +1,142 @@
+-- The claim is not empty: short histories, computed from the definitions with a checksum for the tag.
+use mathlib.Core.Path.{_≡_, refl}
+use mathlib.Core.List.{List, [], _∷_}
+use Prim.Native.Nat.{ℕ, _+_, _*_, _%_}
+use lib.ListN.{replicate}
+use lib.Seq.{sets}
+use Rattle.words.specs.Bytes.{part, same}
+use Rattle.tree.specs.Numbers.{be}
+use Rattle.tree.specs.Layout.{size, offset, cardLength, label, tag}
+use Rattle.tree.specs.Nodes.{upTo, pathNode, sibling, path, pairs, pairsButLeaf, allNodes}
+use Rattle.tree.specs.Labels.{form, labels, blankLabels, raised, newLabels}
+use Rattle.tree.specs.Card.{stamped, blanked, written, firstWrong}
+use Rattle.tree.specs.Ranges.{rangesTo, encode}
+use Rattle.tree.specs.Limits.{firstFailing}
+use Rattle.tree.specs.Calls.{Call, read, write, check, wipe, limits, checks, formatAnswer, answerOf, outcome, format}
+use Rattle.tree.specs.declared.Anchor.{Anchor}
+use Rattle.tree.specs.declared.Answer.{Answer}
+use Rattle.tree.specs.declared.Refusal.the-variants.{CardLength}
+use Rattle.tree.specs.declared.Answer.the-variants.{Whole, Wrong, Refused}
+use Rattle.replay.specs.Array.{zeroed, moved}
+use Rattle.replay.specs.Run.{State, start, next}
+
+-- sixteen times a checksum
+abbrev sum : List ℕ → ℕ
+sum [] = 0
+sum (x ∷ xs) = (x + 3 * sum xs + 1) % 256
+
+abbrev checksum : List ℕ → List ℕ
+checksum m = replicate 16 (sum m)
+
+abbrev pub newBlock : List ℕ
+newBlock = replicate 64 7
+
+abbrev pub zeroBlock : List ℕ
+zeroBlock = replicate 64 0
+
+-- the card with the entry of node u as it was on an older one
+abbrev older : ℕ → List ℕ → List ℕ → ℕ → List ℕ
+older n old card u = sets card (offset n u) (part old (offset n u) (size n u + 16))
+
+abbrev answer : Anchor → List ℕ → Call → Answer
+answer a card c = outcome checksum a card c .answer
+
+pub record History : Type 0 where
+  pub answers : List Answer
+  pub given : List ℕ
+
+-- The call c on the card as last left, and what follows it: a read of block i, which gives its bytes, and a check; the same two on the card
+-- of before c; and the same two on a card on which two nodes, u and w, are as they were before c.
+abbrev around : ℕ → State → Call → ℕ → ℕ → ℕ → History
+around n s c i u w =
+    let old = s .store .left in
+    let t = next checksum s (record { card = old; call = c }) in
+    let new = t .store .left in
+    let mixed = older n old (older n old new u) w in
+    let reading = read i (replicate 64 0) in
+    let a = t .store .anchor in
+    record {
+      answers =
+          answer (s .store .anchor) old c
+          ∷ answer a new reading ∷ answer a new check
+          ∷ answer a old reading ∷ answer a old check
+          ∷ answer a mixed reading ∷ answer a mixed check ∷ [];
+      given = outcome checksum a new reading .lent;
+    }
+
+abbrev formatted : ℕ → State
+formatted n = start checksum (replicate 16 0) n (replicate (cardLength n) 0)
+
+abbrev writing : ℕ → ℕ → Call
+writing n i = write i newBlock (replicate (16 * n) 0)
+
+-- A card of depth n is formatted, and block i is written on it;
+abbrev pub history : ℕ → ℕ → ℕ → ℕ → History
+history n i u w = around n (formatted n) (writing n i) i u w
+
+-- or formatted, written and then wiped.
+abbrev pub wipedHistory : ℕ → ℕ → ℕ → ℕ → History
+wipedHistory n i u w =
+    let s = formatted n in
+    around n (next checksum s (record { card = s .store .left; call = writing n i })) wipe i u w
+
+-- the call and those on its card are accepted, and the others name these nodes
+abbrev pub refusedAt : List ℕ → ℕ → ℕ → ℕ → ℕ → History
+refusedAt block oldRead oldCheck mixedRead mixedCheck =
+    record {
+      answers =
+          Whole ∷ Whole ∷ Whole
+          ∷ Wrong (record { 0 = oldRead }) ∷ Wrong (record { 0 = oldCheck })
+          ∷ Wrong (record { 0 = mixedRead }) ∷ Wrong (record { 0 = mixedCheck }) ∷ [];
+      given = block;
+    }
+
+-- At depth 1 both leaves are old. At depths 2 and 3 the leaf and its parent are old, and right for each other.
+pub computed : (history 1 0 2 3 ≡ refusedAt newBlock 2 2 2 2)
+    × (history 2 2 3 6 ≡ refusedAt newBlock 3 2 3 3)
+    × (history 3 5 6 13 ≡ refusedAt newBlock 3 2 6 6)
+unfolding start next moved format formatAnswer zeroed limits firstFailing checks outcome answerOf firstWrong blanked written stamped
+    labels blankLabels newLabels raised allNodes upTo pathNode sibling path pairs pairsButLeaf be size offset label tag form same rangesTo
+    encode
+computed = (refl, refl, refl)
+
+-- After a wipe the block is zero, and neither the card of before nor two nodes of it are accepted.
+pub wipe-computed : (wipedHistory 1 0 2 3 ≡ refusedAt zeroBlock 2 2 2 2)
+    × (wipedHistory 2 2 3 6 ≡ refusedAt zeroBlock 3 2 3 3)
+    × (wipedHistory 3 5 6 13 ≡ refusedAt zeroBlock 3 2 6 6)
+unfolding start next moved format formatAnswer zeroed limits firstFailing checks outcome answerOf firstWrong blanked written stamped
+    labels blankLabels newLabels raised allNodes upTo pathNode sibling path pairs pairsButLeaf be size offset label tag form same rangesTo
+    encode
+wipe-computed = (refl, refl, refl)
+
+-- Around the untouched half, at depth 2: a write of block 0 on a card on which block 3 was altered, which it does not check.
+abbrev altered : List ℕ
+altered = sets (formatted 2 .store .left) (offset 2 7) (1 ∷ [])
+
+abbrev spoiled : State
+spoiled = next checksum (formatted 2) (record { card = altered; call = writing 2 0 })
+
+-- It is accepted, and a check of the card that it left names node 7.
+pub touched-computed : (answer (formatted 2 .store .anchor) altered (writing 2 0) ≡ Whole)
+    × (answer (spoiled .store .anchor) (spoiled .store .left) check ≡ Wrong (record { 0 = 7 }))
+unfolding start next moved format formatAnswer zeroed limits firstFailing checks outcome answerOf firstWrong blanked written stamped
+    labels blankLabels newLabels raised allNodes upTo pathNode sibling path pairs pairsButLeaf be size offset label tag form same rangesTo
+    encode
+touched-computed = (refl, refl)
+
+-- A wipe that is refused leaves it so,
+pub refused-computed : let s = next checksum spoiled (record { card = 0 ∷ []; call = wipe }) in
+    (answer (spoiled .store .anchor) (0 ∷ []) wipe ≡ Refused CardLength)
+    × (answer (s .store .anchor) (s .store .left) check ≡ Wrong (record { 0 = 7 }))
+unfolding start next moved format formatAnswer zeroed limits firstFailing checks outcome answerOf firstWrong blanked written stamped
+    labels blankLabels newLabels raised allNodes upTo pathNode sibling path pairs pairsButLeaf be size offset label tag form same rangesTo
+    encode
+refused-computed = (refl, refl)
+
+-- and one that is accepted mends it.
+pub mended-computed : let s = next checksum spoiled (record { card = spoiled .store .left; call = wipe }) in
+    answer (s .store .anchor) (s .store .left) check ≡ Whole
+unfolding start next moved format formatAnswer zeroed limits firstFailing checks outcome answerOf firstWrong blanked written stamped
+    labels blankLabels newLabels raised allNodes upTo pathNode sibling path pairs pairsButLeaf be size offset label tag form same rangesTo
+    encode
+mended-computed = refl

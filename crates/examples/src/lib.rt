@@ -1,0 +1,1 @@
+// Short histories computed from the definitions are proofs alone: this crate runs nothing.

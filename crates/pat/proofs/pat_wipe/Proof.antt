@@ -1,0 +1,50 @@
+use mathlib.Core.Bool.{true}
+use denote.Ref.{now}
+use Rattle.tree.specs.Calls.{wipe}
+use Rattle.tree.proofs.AnswerLaws.{node-small, not-whole}
+use Rattle.pat.specs.Host.{hostCall}
+use Rattle.pat.proofs.HostLaws.{measured-out, hosted-kept, hosted-moved, host-call}
+use borrow.Author.Needs.{needs}
+use Rattle.pat.proofs.pat_wipe.Statement.{statement}
+use Rattle.pat.proofs.pat_wipe.Tie as tie
+
+returns : tie.Need-returns
+unfolding hostCall
+returns c = measured-out _ _ _ _ (c .if1 .taken)
+
+returns-2 : tie.Need-returns-2
+returns-2 c =
+    let wiped = c .before .before .before .before in
+    let anchor-of = wiped .before .before in
+    let s = anchor-of .before .before .before .before .before .args in
+    let a = anchor-of .of .result in
+    rw (
+      host-call (now (s .anchor)) (now (s .card)) a (anchor-of .of .ensures) (anchor-of .before .before .if1 .left) wipe,
+      c .of2 .ensures,
+    )
+    (hosted-kept (now (s .anchor)) _ (wiped .wipe .result .answer) (wiped .wipe .result .anchor) _ _ (wiped .wipe .ensures) true
+    (not-whole (wiped .wipe .result .answer) (c .before .match .keys2)))
+
+returns-3 : tie.Need-returns-3
+returns-3 c =
+    let put = c .before .before in
+    let told = put .before .before .before in
+    let wiped = told .before .before .before .before in
+    let anchor-of = wiped .before .before in
+    let s = anchor-of .before .before .before .before .before .args in
+    let a = anchor-of .of .result in
+    rw (
+      host-call (now (s .anchor)) (now (s .card)) a (anchor-of .of .ensures) (anchor-of .before .before .if1 .left) wipe,
+      put .put-root .ensures,
+    )
+    (hosted-moved (now (s .anchor)) _ (wiped .wipe .result .answer) (wiped .wipe .result .anchor) _ _ (wiped .wipe .ensures)
+    (told .enum-told .given .1))
+
+pub pat-wipe-spec : {M : Type 1} → statement M
+pat-wipe-spec =
+    tie.close
+    (tie.spec
+    returns (λ c κs. search needs) (λ c κs. search needs) (λ c. search needs)
+    (λ c κs. rw (c .before .before .before .wipe .ensures .answered) (node-small _ _ _ _)) (λ c. search needs)
+    (λ c. search needs) returns-2
+    (λ c κs. search needs) (λ c. search needs) (λ c. search needs) returns-3)
