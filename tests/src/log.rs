@@ -1,14 +1,15 @@
 //! The log that the program `histories` prints, made by the reference alone.
 //!
-//! For each depth from 1 to 6: a line with the depth, then a line for the format (step 0, kind 16) and for each of 300 steps:
+//! For each depth from 1 to 6: a line with the depth, then a line for the format (step 0, kind 17) and for each of 500 steps:
 //! step, kind, answer number, node, root nonce, and the Adler-32 of card, read buffer and range buffer.
 
 use reference::tree::{self, layout, Anchor, Answer, Node};
 use std::fmt::Write;
 
 const DEPTHS: std::ops::RangeInclusive<u64> = 1..=6;
-const STEPS: u64 = 300;
-const FORMAT: u64 = 16;
+const STEPS: u64 = 500;
+const KINDS: u64 = 17;
+const FORMAT: u64 = KINDS;
 const FRESH_CARD: u8 = 0xa5;
 const FRESH_BUFFER: [u8; 64] = [0x5a; 64];
 const FRESH_RANGES: [u8; 101] = [0x3c; 101];
@@ -76,7 +77,7 @@ impl Run {
     fn step(&mut self) -> (u64, Answer) {
         self.buffer = FRESH_BUFFER;
         self.ranges = FRESH_RANGES;
-        let kind = self.draws.draw() % 16;
+        let kind = self.draws.draw() % KINDS;
         let index = self.draws.draw() % layout::blocks(self.anchor.depth);
         let answer = match kind {
             0..=4 => self.write(index),
@@ -87,10 +88,11 @@ impl Run {
             12 => tree::read(&self.anchor, &self.old, index, &mut self.buffer),
             13 => self.mixed(index),
             14 => self.beyond_a_limit(index),
-            _ => {
+            15 => {
                 self.old.clone_from(&self.card);
                 self.check()
             }
+            _ => self.wiped(),
         };
         (kind, answer)
     }
@@ -118,12 +120,18 @@ impl Run {
 
     /// Makes a call while one bit of the card is flipped.
     fn with_a_bit_flipped(&mut self, call: impl FnOnce(&mut Run) -> Answer) -> Answer {
-        let at = (self.draws.draw() % self.card.len() as u64) as usize;
-        let bit = 1 << (self.draws.draw() % 8);
-        self.card[at] ^= bit;
+        let (at, bit) = self.flip();
         let answer = call(self);
         self.card[at] ^= bit;
         answer
+    }
+
+    /// Flips a bit of the card that is drawn, and says which.
+    fn flip(&mut self) -> (usize, u8) {
+        let at = (self.draws.draw() % self.card.len() as u64) as usize;
+        let bit = 1 << (self.draws.draw() % 8);
+        self.card[at] ^= bit;
+        (at, bit)
     }
 
     /// Makes a call on the card with two nodes of the old one; an accepted write makes that the card.
@@ -166,6 +174,39 @@ impl Run {
                 tree::write(anchor, card, index, &block, &mut self.ranges[..short])
             }
         }
+    }
+
+    /// Wipes the card, in three of four cases spoiled: with a bit flipped, with other bytes, or the old card; or makes a wipe
+    /// that a limit refuses.
+    fn wiped(&mut self) -> Answer {
+        match self.draws.draw() % 8 {
+            0 => {}
+            1 => _ = self.flip(),
+            2 => self.card.fill_with(|| self.draws.draw() as u8),
+            3 => self.card.clone_from(&self.old),
+            _ => return self.wipe_beyond_a_limit(),
+        }
+        let answer = tree::wipe(&self.anchor, &mut self.card);
+        if let Answer::Accepted(anchor) = answer {
+            self.anchor = anchor;
+        }
+        answer
+    }
+
+    /// Makes a wipe with a short card, too great a depth, a root nonce that is no multiple, or the last multiple. At depth 1
+    /// every number is a multiple, and the last number stands for the third.
+    fn wipe_beyond_a_limit(&mut self) -> Answer {
+        let Anchor { key, depth, root } = self.anchor;
+        let (deeper, bytes) = (depth + 16, self.card.len());
+        let (depth, root, bytes) = match self.draws.draw() % 4 {
+            0 => (depth, root, bytes - 1),
+            1 => (deeper, root, bytes),
+            2 if depth == 1 => (depth, u64::MAX, bytes),
+            2 => (depth, root ^ 1, bytes),
+            _ => (depth, u64::MAX / depth * depth, bytes),
+        };
+        let anchor = Anchor { key, depth, root };
+        tree::wipe(&anchor, &mut self.card[..bytes])
     }
 
     /// The line of a step.

@@ -1,8 +1,59 @@
-//! The stored output of the program `histories` is the reference's log.
+//! The stored output of the program `histories` is the reference's log, and the log has what the histories are for.
 
 use std::path::Path;
 
 const STORED: &str = "../crates/histories/stdout";
+
+/// Kinds of steps: a check, a read of the old card, two of its nodes among new ones, a check after which the card is the old
+/// one, and a wipe.
+const CHECK: u64 = 9;
+const OLD: u64 = 12;
+const MIXED: u64 = 13;
+const KEPT: u64 = 15;
+const WIPE: u64 = 16;
+
+/// How often a thing comes up at the least, over all depths.
+const LEAST: u64 = 12;
+
+/// A step: its kind, the number that it answers, and the root nonce and the card's checksum after it.
+struct Step {
+    kind: u64,
+    number: u64,
+    root: u64,
+    card: u64,
+}
+
+/// The steps at each depth from 1, each history with the format first.
+fn histories() -> Vec<Vec<Step>> {
+    let mut histories: Vec<Vec<Step>> = Vec::new();
+    for line in tests::log::log().lines() {
+        if line.starts_with("depth ") {
+            histories.push(Vec::new());
+            continue;
+        }
+        let numbers = line.split(' ').map(|word| word.parse().expect("a number"));
+        let numbers: Vec<u64> = numbers.collect();
+        histories.last_mut().expect("a depth").push(Step {
+            kind: numbers[1],
+            number: numbers[2],
+            root: numbers[4],
+            card: numbers[5],
+        });
+    }
+    histories
+}
+
+/// Each of the numbers comes up often enough, and no other does.
+fn all_of(numbers: &[usize], counts: [u64; 9], what: &str) {
+    println!("{what}: {counts:?}");
+    for (number, &count) in counts.iter().enumerate() {
+        let right = match numbers.contains(&number) {
+            true => count >= LEAST,
+            false => count == 0,
+        };
+        assert!(right, "{what}, answer {number}: {count} times");
+    }
+}
 
 /// Every line is the same; the first one that differs is shown.
 #[test]
@@ -16,16 +67,83 @@ fn stored_output() {
     assert_eq!(stored.len(), log.len(), "one is longer than the other");
 }
 
-/// Every answer comes up: accepted, and the refusals that the log has steps for.
+/// Every answer comes up.
 #[test]
 fn answers() {
-    let log = tests::log::log();
-    let answer = |line: &str| line.split(' ').nth(2).map(String::from);
-    let answers: Vec<String> = log.lines().filter_map(answer).collect();
-    assert_eq!(answers.len(), 6 * 301);
-    for number in ["0", "3", "4", "5", "6", "8"] {
-        let count = answers.iter().filter(|answer| *answer == number).count();
-        println!("answer {number}: {count} times");
-        assert!(count >= 12, "answer {number}: {count} times");
+    let mut counts = [0; 9];
+    for step in histories().iter().flatten() {
+        counts[step.number as usize] += 1;
     }
+    assert_eq!(counts.iter().sum::<u64>(), 6 * 501);
+    all_of(&[0, 1, 2, 3, 4, 5, 6, 7, 8], counts, "steps");
+}
+
+/// Wipes are accepted at every depth and refused by every limit that they have. An accepted one moves the root nonce by the
+/// depth, and a refused one changes nothing.
+#[test]
+fn wipes() {
+    let mut counts = [0; 9];
+    for (depth, steps) in (1..).zip(histories()) {
+        let mut accepted = 0;
+        for pair in steps.windows(2).filter(|pair| pair[1].kind == WIPE) {
+            let (before, wipe) = (&pair[0], &pair[1]);
+            if wipe.number == 0 {
+                accepted += 1;
+                assert_eq!(wipe.root, before.root + depth);
+            } else {
+                assert_eq!((wipe.root, wipe.card), (before.root, before.card));
+            }
+            counts[wipe.number as usize] += 1;
+        }
+        assert!(accepted >= LEAST, "depth {depth}: {accepted} accepted");
+    }
+    all_of(&[0, 1, 2, 3, 7], counts, "wipes");
+}
+
+/// The card of before a wipe is refused at every read after it; two of its nodes among new ones are too, where they are looked
+/// at.
+#[test]
+fn cards_of_before_a_wipe() {
+    let (mut whole, mut mixed) = ([0; 9], [0; 9]);
+    for steps in histories() {
+        let mut wiped = false;
+        for step in steps {
+            match step.kind {
+                KEPT => wiped = false,
+                WIPE => wiped |= step.number == 0,
+                OLD if wiped => whole[step.number as usize] += 1,
+                MIXED if wiped => mixed[step.number as usize] += 1,
+                _ => {}
+            }
+        }
+    }
+    all_of(&[8], whole, "old cards");
+    all_of(&[0, 8], mixed, "old nodes");
+}
+
+/// A write may leave an old node on the card, which a check finds. A wipe mends that: until the next such write every check is
+/// accepted.
+#[test]
+fn mended() {
+    let (mut wrong, mut mended) = (0, 0);
+    for steps in histories() {
+        let (mut found, mut fresh) = (false, true);
+        for step in steps {
+            match (step.kind, step.number) {
+                (WIPE, 0) => {
+                    mended += u64::from(found);
+                    (found, fresh) = (false, true);
+                }
+                (MIXED, 0) => fresh = false,
+                (CHECK | KEPT, number) => {
+                    assert!(number == 0 || !fresh, "a check of a wiped card: {number}");
+                    found = number != 0;
+                    wrong += u64::from(found);
+                }
+                _ => {}
+            }
+        }
+    }
+    println!("checks refused: {wrong}; cards mended: {mended}");
+    assert!(wrong >= LEAST && mended >= 6, "{wrong}, {mended}");
 }

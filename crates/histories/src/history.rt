@@ -14,7 +14,10 @@ ghost use Rattle.steps.specs.Card.{IsDepth, IsCard};
 const SEED: u64 = 0x9e37_79b9_7f4a_7c15;
 
 // How many steps follow the format.
-const STEPS: u64 = 300;
+const STEPS: u64 = 500;
+
+// How many kinds of steps there are, from 0. The format has the number after them.
+const KINDS: u64 = 17;
 
 // Runs and prints the history of a depth.
 pub fn run(depth: u64)
@@ -46,7 +49,7 @@ fn format(depth: u64, card: &mut [u8]) -> Left {
     let anchor = reply.anchor;
     let left = turn::untouched(answer, anchor, drawn);
     log::depth(depth);
-    log::step(0, 16, left, card);
+    log::step(0, KINDS, left, card);
     left
 }
 
@@ -73,7 +76,7 @@ fn one(number: u64, depth: u64, anchor: Anchor, last: u64, card: &mut [u8], old:
 {
     let r = draw::next(last);
     let q = draw::next(r);
-    let kind = r % 16;
+    let kind = r % KINDS;
     let block = BlockIndex(draw::pick(q, size::blocks(depth)));
     let turn = Turn {
         anchor: anchor,

@@ -1,14 +1,15 @@
 // A step of each kind.
+use hostile::mix;
+use hostile::refuse;
+use hostile::wipe;
 use steps::call;
 use steps::flip;
-use steps::mix;
-use steps::refuse;
 use steps::turn::Left;
 use steps::turn::Turn;
 ghost use Prim.Native.Nat.{_^_, _<_};
 ghost use Rattle.steps.specs.Card.{IsCard};
 
-// Five kinds of sixteen write and four read; the others are hostile, or check the card.
+// Five kinds of seventeen write and four read; the others are hostile, check the card, or wipe it.
 pub fn step(kind: u64, turn: Turn, depth: u64, card: &mut [u8], old: &mut [u8]) -> Left
     requires { ⌜ turn .block .0 < 2 ^ depth ⌝ }
     requires { ⌜ IsCard depth (now card) ⌝ }
@@ -38,6 +39,9 @@ pub fn step(kind: u64, turn: Turn, depth: u64, card: &mut [u8], old: &mut [u8]) 
     if kind == 14 {
         return refuse::step(turn, depth, card);
     }
-    words::put(old, 0, card);
-    call::check(turn, card)
+    if kind == 15 {
+        words::put(old, 0, card);
+        return call::check(turn, card);
+    }
+    wipe::step(turn, depth, card, old)
 }

@@ -48,3 +48,12 @@ pub fn check(turn: Turn, card: &[u8]) -> Left {
     let anchor = turn.anchor;
     turn::untouched(calls::check(anchor, card), anchor, turn.drawn)
 }
+
+// Wipes the card.
+pub fn wipe(turn: Turn, card: &mut [u8]) -> Left {
+    let before = turn.anchor;
+    let reply = calls::wipe(before, card);
+    let answer = reply.answer;
+    let anchor = reply.anchor;
+    turn::untouched(answer, anchor, turn.drawn)
+}

@@ -35,6 +35,13 @@ pub fn check(mut turn: Turn, card: &mut [u8]) -> Left
     left
 }
 
+// Draws a bit, flips it, and answers the number drawn last.
+pub fn one(drawn: u64, card: &mut [u8]) -> u64
+    requires { ⌜ 1 ≤ length (now card) ⌝ }
+{
+    flip_one(drawn, card).drawn
+}
+
 // Draws a bit and flips it.
 fn flip_one(drawn: u64, card: &mut [u8]) -> Spot
     requires { ⌜ 1 ≤ length (now card) ⌝ }

@@ -1,10 +1,8 @@
-// Steps of a history on a card that anybody may have altered: calls within their limits and beyond them, on the card as it was left, with
-// a bit flipped, or with old entries among new ones.
+// What the steps of a history are made of: the calls with fresh buffers, on the card as it was left or with a bit flipped; the numbers that
+// are drawn; sizes and sums.
 pub mod call;
 pub mod draw;
 pub mod flip;
-pub mod mix;
-pub mod refuse;
 pub mod size;
 pub mod sum;
 pub mod turn;

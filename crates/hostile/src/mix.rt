@@ -1,9 +1,9 @@
 // Cards with two entries of an older one.
-use crate::call;
-use crate::draw;
-use crate::size;
-use crate::turn::Left;
-use crate::turn::Turn;
+use steps::call;
+use steps::draw;
+use steps::size;
+use steps::turn::Left;
+use steps::turn::Turn;
 use tree::Answer;
 use tree::Node;
 use tree::layout;

@@ -2,8 +2,8 @@ use Prim.Native.Nat.{_+_, _≤_}
 use native.Mathlib.Omega.{arith}
 use Rattle.tree.proofs.LayoutLaws.{entry-small, entry-fits}
 use borrow.Author.Needs.{needs}
-use Rattle.steps.proofs.mix.entry.Statement.{statement}
-use Rattle.steps.proofs.mix.entry.Tie as tie
+use Rattle.hostile.proofs.mix.entry.Statement.{statement}
+use Rattle.hostile.proofs.mix.entry.Tie as tie
 
 small : (c : tie.After-size) → c .before .offset .result + (c .size .result + 16) ≤ 6815696
 small c = let s = c .before .before in omega (arith, entry-small (s .args .depth) (s .args .node .0) (omega arith) (s .pre .1))
