@@ -10,7 +10,7 @@
 
 enum { MOST_DEPTH = 7, MOST_CARD = 104 * (1 << MOST_DEPTH), MOST_BYTES = 320, CALLS = 60000 };
 
-enum kind { FORMAT, READ, WRITE, CHECK, KINDS };
+enum kind { FORMAT, READ, WRITE, WIPE, CHECK, KINDS };
 
 // What a call is given and what it leaves.
 struct state {
@@ -43,6 +43,8 @@ static uint64_t proved(enum kind kind, struct state *s) {
     case WRITE:
         return pat_write(s->anchor, s->anchor_len, s->card, s->card_len, s->index, s->block,
                          s->block_len, s->ranges, s->ranges_len);
+    case WIPE:
+        return pat_wipe(s->anchor, s->anchor_len, s->card, s->card_len);
     default:
         return pat_check(s->anchor, s->anchor_len, s->card, s->card_len);
     }
@@ -58,6 +60,8 @@ static uint64_t plain(const struct tree_cmac *cmac, enum kind kind, struct state
     case WRITE:
         return tree_write(cmac, s->anchor, s->anchor_len, s->card, s->card_len, s->index, s->block,
                           s->block_len, s->ranges, s->ranges_len);
+    case WIPE:
+        return tree_wipe(cmac, s->anchor, s->anchor_len, s->card, s->card_len);
     default:
         return tree_check(cmac, s->anchor, s->anchor_len, s->card, s->card_len);
     }
@@ -114,19 +118,21 @@ static void vary(struct state *s) {
     }
 }
 
-// One call on two copies of the state; an accepted one carries over.
+// One call on two copies of the state; an accepted write or wipe under its own anchor carries over.
 static unsigned compare(const struct tree_cmac *cmac, struct state *s, enum kind kind) {
     static struct state one, other;
     one = *s;
     vary(&one);
     other = one;
+    bool moves =
+        (kind == WRITE || kind == WIPE) && memcmp(one.anchor, s->anchor, PAT_ANCHOR_BYTES) == 0;
     uint64_t answer = proved(kind, &one), expected = plain(cmac, kind, &other);
     if (answer != expected || memcmp(&one, &other, sizeof one) != 0) {
         fprintf(stderr, "FAILED: call %d answers %llu, and over %s %llu, or leaves other bytes\n",
                 kind, (unsigned long long)answer, cmac_name, (unsigned long long)expected);
         exit(1);
     }
-    if (answer == 0 && kind == WRITE && one.block_len == PAT_BLOCK_BYTES && any(4) != 0) {
+    if (answer == 0 && moves && any(4) != 0) {
         memcpy(s->anchor, one.anchor, sizeof s->anchor);
         memcpy(s->card, one.card, sizeof s->card);
     }

@@ -83,7 +83,7 @@ static uint64_t wrong(size_t node) {
     return 8 + 256 * (uint64_t)node;
 }
 
-// Limits 1 to 3, which read, write and check share.
+// Limits 1 to 3, which every call after format shares.
 static uint64_t common_limits(const struct anchor *a, size_t card_len) {
     if (a->depth == 0 || a->depth > MAX_DEPTH)
         return 1;
@@ -94,9 +94,24 @@ static uint64_t common_limits(const struct anchor *a, size_t card_len) {
     return 0;
 }
 
+// An empty card whose nonces are all the anchor's new one, which goes there too.
+static void put_empty(const struct tree_cmac *cmac, uint64_t depth, uint64_t root, uint8_t *anchor,
+                      uint8_t *card, size_t card_len) {
+    uint8_t *nonce = anchor + KEY_BYTES + 8;
+    cmac->set_key(cmac->context, anchor);
+    put_number(nonce, NONCE_BYTES, root);
+    memset(card, 0, card_len);
+    for (size_t node = 2; node < 2 * leaves(depth); node++) {
+        struct place place = place_of(depth, node);
+        uint8_t *label = card + place.offset;
+        if (node < leaves(depth))
+            memcpy(label, nonce, NONCE_BYTES);
+        make_tag(cmac, label, place.size, nonce, node, label + place.size);
+    }
+}
+
 uint64_t tree_format(const struct tree_cmac *cmac, uint8_t *anchor, size_t anchor_len,
                      uint8_t *card, size_t card_len) {
-    static const uint8_t zeros[NONCE_BYTES];
     if (anchor_len != ANCHOR_BYTES)
         return 5;
     struct anchor a = parse(anchor);
@@ -104,14 +119,21 @@ uint64_t tree_format(const struct tree_cmac *cmac, uint8_t *anchor, size_t ancho
     uint64_t refusal = common_limits(&a, card_len);
     if (refusal != 0)
         return refusal;
-    cmac->set_key(cmac->context, anchor);
-    put_number(anchor + KEY_BYTES + 8, 8, 0);
-    memset(card, 0, card_len);
-    for (size_t node = 2; node < 2 * leaves(a.depth); node++) {
-        struct place place = place_of(a.depth, node);
-        uint8_t *label = card + place.offset;
-        make_tag(cmac, label, place.size, zeros, node, label + place.size);
-    }
+    put_empty(cmac, a.depth, 0, anchor, card, card_len);
+    return 0;
+}
+
+uint64_t tree_wipe(const struct tree_cmac *cmac, uint8_t *anchor, size_t anchor_len, uint8_t *card,
+                   size_t card_len) {
+    if (anchor_len != ANCHOR_BYTES)
+        return 5;
+    struct anchor a = parse(anchor);
+    uint64_t refusal = common_limits(&a, card_len);
+    if (refusal != 0)
+        return refusal;
+    if (a.root > UINT64_MAX - a.depth)
+        return 7;
+    put_empty(cmac, a.depth, a.root + a.depth, anchor, card, card_len);
     return 0;
 }
 

@@ -28,4 +28,7 @@ uint64_t tree_write(const struct tree_cmac *cmac, uint8_t *anchor, size_t anchor
 uint64_t tree_check(const struct tree_cmac *cmac, const uint8_t *anchor, size_t anchor_len,
                     const uint8_t *card, size_t card_len);
 
+uint64_t tree_wipe(const struct tree_cmac *cmac, uint8_t *anchor, size_t anchor_len, uint8_t *card,
+                   size_t card_len);
+
 #endif

@@ -47,6 +47,7 @@ pub enum Call {
     Write,
     Check,
     Format,
+    Wipe,
 }
 
 impl fmt::Display for Call {
@@ -57,6 +58,7 @@ impl fmt::Display for Call {
             Call::Write => "write",
             Call::Check => "check",
             Call::Format => "format",
+            Call::Wipe => "wipe",
         })
     }
 }
@@ -77,7 +79,7 @@ impl Work {
         match self.call {
             Call::Read => 1 + 2 * above + 5,
             Call::Write => 1 + (2 * 2 * above + 5) + (2 * 2 * above + 2 * 5),
-            Call::Check | Call::Format => 1 + 2 * (leaves - 2) + 5 * leaves,
+            Call::Check | Call::Format | Call::Wipe => 1 + 2 * (leaves - 2) + 5 * leaves,
         }
     }
 }
@@ -90,7 +92,11 @@ struct Group {
 
 impl Group {
     /// The calls at the depths.
-    fn new(calls: [Call; 2], depths: impl Iterator<Item = u32>, span: Span) -> Self {
+    fn new<const N: usize>(
+        calls: [Call; N],
+        depths: impl Iterator<Item = u32>,
+        span: Span,
+    ) -> Self {
         let at = |depth| calls.map(|call| Work { call, depth });
         let works = depths.flat_map(at).collect();
         Group { works, span }
@@ -101,14 +107,14 @@ impl Group {
 /// long repetitions beside them: what changes the clock's speed meanwhile then meets all alike.
 fn groups() -> [Group; 3] {
     let [low, middle, high] = DEPTHS;
-    let whole = [Call::Check, Call::Format];
+    let whole = [Call::Check, Call::Format, Call::Wipe];
     let long = Span {
         repetition: Duration::from_millis(15),
-        all: Duration::from_secs(30),
+        all: Duration::from_secs(45),
     };
     [
         Group::new([Call::Read, Call::Write], 1..=DEEPEST, Span::short(45)),
-        Group::new(whole, [low, middle].into_iter(), Span::short(20)),
+        Group::new(whole, [low, middle].into_iter(), Span::short(30)),
         Group::new(whole, [high].into_iter(), long),
     ]
 }

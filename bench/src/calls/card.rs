@@ -9,7 +9,7 @@ use std::rc::Rc;
 /// The bytes of the longest list of ranges.
 const RANGES: usize = 16 * super::DEEPEST as usize;
 
-/// The four calls, as C has them: 0 is accepted.
+/// The calls, as C has them: 0 is accepted.
 pub trait Calls {
     /// Makes an empty card.
     fn format(&self, anchor: &mut [u8], card: &mut [u8]) -> u64;
@@ -29,11 +29,14 @@ pub trait Calls {
 
     /// Checks the whole card.
     fn check(&self, anchor: &[u8], card: &[u8]) -> u64;
+
+    /// Empties a card under the same key.
+    fn wipe(&self, anchor: &mut [u8], card: &mut [u8]) -> u64;
 }
 
 /// Calls of Rust modules whose functions have those names and arguments.
 macro_rules! calls {
-    ($text:literal, $name:ident, $format:path, $read:path, $write:path, $check:path) => {
+    ($text:literal, $name:ident, $format:path, $read:path, $write:path, $check:path, $wipe:path) => {
         #[doc = $text]
         pub struct $name;
 
@@ -60,6 +63,10 @@ macro_rules! calls {
             fn check(&self, anchor: &[u8], card: &[u8]) -> u64 {
                 $check(anchor, card)
             }
+
+            fn wipe(&self, anchor: &mut [u8], card: &mut [u8]) -> u64 {
+                $wipe(anchor, card)
+            }
         }
     };
 }
@@ -70,7 +77,8 @@ calls!(
     pat::format,
     pat::read,
     pat::write,
-    pat::check
+    pat::check,
+    pat::wipe
 );
 calls!(
     "The reference's calls.",
@@ -78,7 +86,8 @@ calls!(
     host::pat_format,
     host::pat_read,
     host::pat_write,
-    host::pat_check
+    host::pat_check,
+    host::pat_wipe
 );
 
 /// A card with its anchor.
@@ -135,6 +144,10 @@ impl Store for Card {
 
     fn check(&mut self) -> bool {
         self.calls.check(&self.anchor, &self.card) == 0
+    }
+
+    fn wipe(&mut self) -> bool {
+        self.calls.wipe(&mut self.anchor, &mut self.card) == 0
     }
 
     fn warm(&self) {

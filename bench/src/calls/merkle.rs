@@ -110,6 +110,11 @@ impl Store for Merkle {
         (1..self.hashes.len()).all(right) && self.hashes[1] == self.root
     }
 
+    /// A format once more: it has no key or nonces to keep.
+    fn wipe(&mut self) -> bool {
+        self.format()
+    }
+
     fn warm(&self) {
         touch(self.hashes.as_flattened());
         touch(self.blocks.as_flattened());

@@ -31,6 +31,9 @@ pub trait Store {
     /// Checks everything.
     fn check(&mut self) -> bool;
 
+    /// Makes every block zero again, under the same key.
+    fn wipe(&mut self) -> bool;
+
     /// Reads every byte, so that what fits into a cache is in it.
     fn warm(&self);
 
@@ -62,7 +65,7 @@ pub struct Stores {
     works: Vec<Work>,
     /// For each depth from 1: a store with every drawn block written.
     filled: Vec<Box<dyn Store>>,
-    /// For each depth of the tables: a store that is only formatted.
+    /// For each depth of the tables: a store that is only formatted and wiped.
     spare: Vec<Box<dyn Store>>,
     drawn: Vec<[u32; DRAWN]>,
     blocks: [Block; BLOCKS],
@@ -98,13 +101,15 @@ impl Stores {
         Ok(stores)
     }
 
-    /// Formats a store, writes all drawn blocks and finds them there.
+    /// Formats a store, writes a block and wipes it, writes all drawn blocks and finds them there.
     fn fill(&mut self, depth: u32) -> Option<()> {
         let place = depth as usize - 1;
         let store = &mut self.filled[place];
         let mut plain = vec![[0; 64]; 1 << depth];
         let accepted = |answer: bool| answer.then_some(());
         accepted(store.format())?;
+        accepted(store.write(1, &self.blocks[0]))?;
+        accepted(store.wipe())?;
         for (&index, block) in self.drawn[place].iter().zip(self.blocks.iter().cycle()) {
             accepted(store.write(u64::from(index), block))?;
             plain[index as usize] = *block;
@@ -138,6 +143,7 @@ impl Stores {
                 Call::Write => store.write(index, &blocks[self.cursor % BLOCKS]),
                 Call::Check => store.check(),
                 Call::Format => store.format(),
+                Call::Wipe => store.wipe(),
             };
             self.cursor = self.cursor.wrapping_add(1);
         }
@@ -149,14 +155,14 @@ impl Stores {
     }
 }
 
-/// The store that a work uses: a format has its own.
+/// The store that a work uses: a format and a wipe have their own.
 fn pick<'a>(
     filled: &'a mut [Box<dyn Store>],
     spare: &'a mut [Box<dyn Store>],
     work: Work,
 ) -> &'a mut dyn Store {
     match DEPTHS.iter().position(|&depth| depth == work.depth) {
-        Some(place) if work.call == Call::Format => spare[place].as_mut(),
+        Some(place) if matches!(work.call, Call::Format | Call::Wipe) => spare[place].as_mut(),
         _ => filled[work.depth as usize - 1].as_mut(),
     }
 }

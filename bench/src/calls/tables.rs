@@ -8,7 +8,13 @@ use crate::report::{print_head, print_line};
 use crate::subject::{OPENSSL, PROVED, WITH, WITHOUT};
 
 /// The calls in the order of the tables.
-const CALLS: [Call; 4] = [Call::Read, Call::Write, Call::Check, Call::Format];
+const CALLS: [Call; 5] = [
+    Call::Read,
+    Call::Write,
+    Call::Check,
+    Call::Format,
+    Call::Wipe,
+];
 
 /// The row of the limit.
 pub const LIMIT: &str = "limit";
@@ -45,9 +51,9 @@ fn explain_cards() {
     };
     println!("{DRAWN} block numbers and the blocks are drawn before the clock starts. Before each repetition of");
     println!(
-        "reads or writes those blocks are read once; before a check or a format the whole card"
+        "reads or writes those blocks are read once; before a check, a format or a wipe the whole"
     );
-    println!("is, which is warm then where it fits into {named}:");
+    println!("card is, which is warm then where it fits into {named}:");
     for depth in DEPTHS {
         let bytes = card_bytes(depth);
         let fits = match kibibytes {
@@ -68,7 +74,8 @@ fn explain_rows() {
         "SHA-256 Merkle tree (SHA-256: {}): without a key, hashes stored, the",
         merkle::whose()
     );
-    println!("root trusted. A read verifies its path; a write verifies it and makes it anew.");
+    println!("root trusted. A read verifies its path; a write verifies it and makes it anew; a wipe is a");
+    println!("format.");
     println!(
         "Limit: the definition's AES calls, each at the cost of one of OpenSSL's blocks with AES"
     );

@@ -10,6 +10,9 @@ const CALLS: [Call; 2] = [Call::Read, Call::Write];
 /// The most that a call may take, as a multiple of the limit.
 const LIMIT_TARGET: f64 = 4.5;
 
+/// The most that a wipe may take, as a multiple of a format.
+const WIPE_TARGET: f64 = 1.05;
+
 /// Whether a target is met, and where it is not.
 fn verdict(met: [bool; DEPTHS.len()]) -> String {
     let missed = DEPTHS.iter().zip(met).filter(|(_, met)| !met);
@@ -47,6 +50,19 @@ fn print_target(
     );
 }
 
+/// Prints that a wipe costs what a format costs, at the depths of the tables.
+fn print_wipe_target(results: &Results) {
+    let ratios =
+        DEPTHS.map(|depth| results.proved(Call::Wipe, depth) / results.proved(Call::Format, depth));
+    let shown = ratios.map(|ratio| format!("{ratio:.3}"));
+    println!(
+        "- wipe within {:.0} % of format: {} ({})",
+        100.0 * (WIPE_TARGET - 1.0),
+        verdict(ratios.map(|ratio| ratio < WIPE_TARGET)),
+        shown.join(", ")
+    );
+}
+
 /// Prints every target.
 pub fn print_all(results: &Results) {
     let [low, middle, high] = DEPTHS;
@@ -76,6 +92,7 @@ pub fn print_all(results: &Results) {
             results.limit(call, depth)
         });
     }
+    print_wipe_target(results);
     if let Some((least, most)) = results.block(OPENSSL) {
         println!("\nThe limit's block is OpenSSL's with AES instructions, one call of EVP_EncryptUpdate in a chain: {least:.2} to {most:.2} ns in turn with the calls.");
     }

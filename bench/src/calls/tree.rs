@@ -50,6 +50,13 @@ extern "C" {
         card: *const u8,
         card_len: usize,
     ) -> u64;
+    fn tree_wipe(
+        cmac: *const TreeCmac,
+        anchor: *mut u8,
+        anchor_len: usize,
+        card: *mut u8,
+        card_len: usize,
+    ) -> u64;
 }
 
 /// The tree over one library; the library's context stays until the program ends.
@@ -150,6 +157,20 @@ impl<M: Mac> Calls for Tree<M> {
         // SAFETY: the pointers and lengths are those of slices that live through the call.
         unsafe { tree_check(&self.cmac, anchor, anchor_len, card.as_ptr(), card.len()) }
     }
+
+    fn wipe(&self, anchor: &mut [u8], card: &mut [u8]) -> u64 {
+        let (anchor, anchor_len) = (anchor.as_mut_ptr(), anchor.len());
+        // SAFETY: the pointers and lengths are those of slices that live through the call.
+        unsafe {
+            tree_wipe(
+                &self.cmac,
+                anchor,
+                anchor_len,
+                card.as_mut_ptr(),
+                card.len(),
+            )
+        }
+    }
 }
 
 #[cfg(test)]
@@ -210,6 +231,7 @@ mod tests {
             expect(Call::Write, &mut |card| card.write(1, &[7; 64]));
             expect(Call::Read, &mut |card| card.read(1) == Some(&[7; 64]));
             expect(Call::Check, &mut Card::check);
+            expect(Call::Wipe, &mut Card::wipe);
         }
     }
 }
