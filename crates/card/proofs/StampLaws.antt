@@ -1,5 +1,5 @@
 -- Entries put on a card, one after another.
-use mathlib.Core.Path.{_≡_, refl, sym, ap, ap₂, subst, _∙_}
+use mathlib.Core.Path.{_≡_, sym, ap, ap₂, subst, _∙_}
 use mathlib.Core.List.{List, [], _∷_, _++_, List·Memᴰ, List·Memᴰ·append-cases, List·Memᴰ·eq-of-singleton}
 use mathlib.Core.Logic.{⊎-elim}
 use Prim.Native.Nat.{ℕ, suc, _+_, _*_, _-_, _/_, _%_, _^_, _<_, _≤_}
@@ -9,7 +9,7 @@ use native.Mathlib.Omega.{arith}
 use borrow.Author.Tests.{lt-ltb, le-ltb}
 use lib.ListN.{length, take, drop, replicate, take-append-drop}
 use lib.Pow.{pow-mono}
-use lib.Seq.{sets, sets-eq, take-add, length-sets}
+use lib.Seq.{sets, sets-eq, take-add}
 use Rattle.words.specs.Bytes.{part}
 use Rattle.words.proofs.Stores.{sets-append}
 use Rattle.words.proofs.Cases.{below-or-not}

@@ -20,12 +20,12 @@ use Rattle.tree.specs.declared.Answer.{Answer}
 use Rattle.tree.specs.declared.Answer.the-variants.{Whole, Wrong, Refused}
 use Rattle.replay.specs.Array
 use Rattle.replay.specs.Array.{Told, Array, zeroed, moved}
-use Rattle.replay.specs.Places.{Place, Behind}
+use Rattle.replay.specs.Places.{Place}
 use Rattle.replay.specs.Run
 use Rattle.replay.specs.Run.{Step, Store, State, start, result, next, after, renewals}
 use Rattle.replay.specs.Claim
 use Rattle.replay.specs.Claim.{Agrees, Accepted, AcceptedWipe, known, Agreement, Forgery}
-use Rattle.replay.proofs.PlaceLaws.{first, later, earlier, last, no-place, at-more, mapped, Image, image}
+use Rattle.replay.proofs.PlaceLaws.{first, later, earlier, no-place, at-more, HoldsSince, holds-more, holds-ended, mapped, Image, image}
 use Rattle.replay.proofs.Unforged.{write-not-wipe}
 use Rattle.replay.proofs.Moves.{moved-length, after-key, next-root, after-root}
 use Rattle.pat.specs.Host.{anchorOf, codeOf, Codes}
@@ -291,40 +291,30 @@ module _ (anchor card made left : List ℕ) (formatted : Formatted anchor card 0
       }
 
 -- Lists on untouched cards
-module _ (left : List ℕ) (rs : List Called) (r : Called) where
-  -- what is asked of a call of the longer list: no wipe that answered 0 stands behind it there
-  abbrev pub Asked : List Called → Called → Type 0
-  Asked before c =
-      ((q : Place (rs ++ (r ∷ []))) (between : List Called) → q .before ≡ before ++ (c ∷ between) → q .item .code ≡ 0
-      → q .item .step .call ≡ wipe → ⊥)
-      → c .code ≡ 0 → isWrite (c .step .call) ≡ true → c .step .card ≡ leftBy left before
+module _ (left : List ℕ) where
+  abbrev pub Wipes : List Called → Called → Type 0
+  Wipes before r = (r .code ≡ 0) × (r .step .call ≡ wipe)
 
-  writes-all : ((p : Place rs) → Asked (p .before) (p .item))
-      → (r .code ≡ 0 → isWrite (r .step .call) ≡ true → r .step .card ≡ leftBy left rs) → WritesUntouched left (rs ++ (r ∷ []))
-  writes-all f here p none =
-      at-more Asked rs r f (λ k. here) p (λ q between e zero w. none q (record { between = between; is = e }) zero w)
-
-  writes-more : WritesUntouched left rs → (r .code ≡ 0 → isWrite (r .step .call) ≡ true → r .step .card ≡ leftBy left rs)
-      → WritesUntouched left (rs ++ (r ∷ []))
-  writes-more f here =
-      writes-all (λ p none. f p (λ q b zero w. none (earlier (last rs r) q) (b .between) (b .is) zero w)) here
-
-  writes-wiped : r .code ≡ 0 → r .step .call ≡ wipe → WritesUntouched left (rs ++ (r ∷ []))
-  writes-wiped zero w =
-      writes-all (λ p none. absurd (none (last rs r) (p .behind) (p .is) zero w))
-      (λ z e. absurd (write-not-wipe (r .step .call) e w))
+  abbrev pub Writes : List Called → Called → Type 0
+  Writes before r = r .code ≡ 0 → isWrite (r .step .call) ≡ true → r .step .card ≡ leftBy left before
 
   -- what is asked of a call of a list on untouched cards
   abbrev pub Fair : List Called → Called → Type 0
-  Fair before c = c .code ≡ 0 → (c .step .call ≡ wipe → ⊥) → c .step .card ≡ leftBy left before
+  Fair before r = r .code ≡ 0 → (r .step .call ≡ wipe → ⊥) → r .step .card ≡ leftBy left before
+
+  since : (rs : List Called) → HoldsSince Wipes Writes rs → WritesUntouched left rs
+  since rs f p none = f p (λ q b w. none q b (w .0) (w .1))
 
 pub plain-goes-on : (left : List ℕ) → PlainGoesOn left
 plain-goes-on left =
     record {
       all-none = λ p. absurd (no-place p);
-      all-more = λ rs r f h. at-more (Fair left rs r) rs r f (λ z d. h z);
-      all-wiped = λ rs r f w. at-more (Fair left rs r) rs r f (λ z d. absurd (d w));
+      all-more = λ rs r f h. at-more (Fair left) rs r f (λ z d. h z);
+      all-wiped = λ rs r f w. at-more (Fair left) rs r f (λ z d. absurd (d w));
       writes-none = λ p. absurd (no-place p);
-      writes-more = λ rs r f h. writes-more left rs r f h;
-      writes-wiped = λ rs r zero w. writes-wiped left rs r zero w;
+      writes-more = λ rs r f h.
+          since left (rs ++ (r ∷ [])) (holds-more (Wipes left) (Writes left) rs r (λ p none. f p (λ q b z w. none q b (z, w))) h);
+      writes-wiped = λ rs r z w.
+          since left (rs ++ (r ∷ []))
+          (holds-ended (Wipes left) (Writes left) rs r (z, w) (λ y e. absurd (write-not-wipe (r .step .call) e w)));
     }

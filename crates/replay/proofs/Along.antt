@@ -10,7 +10,7 @@ use Rattle.tree.specs.declared.Answer.the-variants.{Whole, Wrong, Refused}
 use Rattle.replay.specs.Places.{Place}
 use Rattle.replay.specs.Run.{Step, Store, State, result, next, after}
 use Rattle.replay.specs.Claim.{AcceptedWipe, known, Everywhere, Unwiped}
-use Rattle.replay.proofs.PlaceLaws.{first, later, earlier, rest, no-place, at-places}
+use Rattle.replay.proofs.PlaceLaws.{first, later, rest, no-place, at-places}
 
 module _ (F : List ℕ → List ℕ) where
   pub after-append : (xs ys : List Step) (s : State) → after F s (xs ++ ys) ≡ after F (after F s xs) ys
@@ -23,18 +23,6 @@ module _ (F : List ℕ → List ℕ) where
     pub everywhere : (s : State) (x : Step) (xs : List Step) → P s x → Everywhere F (next F s x) xs P → Everywhere F s (x ∷ xs) P
     unfolding after
     everywhere s x xs here rest = at-places (λ before y. P (after F s before) y) x xs here rest
-
-    pub everywhere-first : (s : State) (x : Step) (xs : List Step) → Everywhere F s (x ∷ xs) P → P s x
-    unfolding after
-    everywhere-first s x xs f = f (first x xs)
-
-    pub everywhere-later : (s : State) (x : Step) (xs : List Step) → Everywhere F s (x ∷ xs) P → Everywhere F (next F s x) xs P
-    unfolding after
-    everywhere-later s x xs f p = f (later x p)
-
-    -- what holds everywhere holds before each place
-    pub everywhere-before : (s : State) {xs : List Step} (p : Place xs) → Everywhere F s xs P → Everywhere F s (p .before) P
-    everywhere-before s p f q = f (earlier p q)
 
   -- Since the last accepted wipe
 

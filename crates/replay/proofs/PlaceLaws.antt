@@ -3,7 +3,7 @@ use mathlib.Core.Path.{_≡_, refl, ap, ap₂, subst, _∙_}
 use mathlib.Core.List.{List, [], _∷_, _++_, map, map-append, append-assoc}
 use Prim.Native.Nat.{ℕ}
 use native.Mathlib.Omega.{arith}
-use Rattle.replay.specs.Places.{Place}
+use Rattle.replay.specs.Places.{Place, Behind}
 
 module _ {A : Type 0} where
   -- the first
@@ -74,6 +74,26 @@ module _ {A : Type 0} where
   at-more P [] x f here = at-places P x [] here (λ p. absurd (no-place p))
   at-more P (y ∷ ys) x f here =
       at-places P y (ys ++ (x ∷ [])) (f (first y ys)) (at-more (λ before z. P (y ∷ before) z) ys x (λ p. f (later y p)) here)
+
+-- What is asked of an item only if no item behind it is W. With one more item at the end it holds if it did and holds of that item, too,
+-- or if that item is W.
+module _ {A : Type 0} (W P : List A → A → Type 0) where
+  abbrev pub HoldsSince : List A → Type 0
+  HoldsSince xs = (p : Place xs) → ((q : Place xs) → Behind p q → W (q .before) (q .item) → ⊥) → P (p .before) (p .item)
+
+  module _ (xs : List A) (x : A) where
+    abbrev pub Asked : List A → A → Type 0
+    Asked before y =
+        ((q : Place (xs ++ (x ∷ []))) (between : List A) → q .before ≡ before ++ (y ∷ between) → W (q .before) (q .item) → ⊥) → P before y
+
+    holds-all : ((p : Place xs) → Asked (p .before) (p .item)) → P xs x → HoldsSince (xs ++ (x ∷ []))
+    holds-all f here p none = at-more Asked xs x f (λ k. here) p (λ q between e w. none q (record { between = between; is = e }) w)
+
+    pub holds-more : HoldsSince xs → P xs x → HoldsSince (xs ++ (x ∷ []))
+    holds-more f here = holds-all (λ p none. f p (λ q b w. none (earlier (last xs x) q) (b .between) (b .is) w)) here
+
+    pub holds-ended : W xs x → P xs x → HoldsSince (xs ++ (x ∷ []))
+    holds-ended w here = holds-all (λ p none. absurd (none (last xs x) (p .behind) (p .is) w)) here
 
 -- Places of a list under a function
 module _ {A B : Type 0} (f : A → B) where

@@ -20,7 +20,7 @@ use Rattle.replay.specs.Run.{Step, State, newTags, result, next, after}
 use Rattle.replay.specs.Claim
 use Rattle.replay.specs.Claim.{Untouched, ChecksTagged, AgreesHere, WroteUntouched, AcceptedWipe, known, Agreement, Forgery, Faithful}
 use Rattle.replay.specs.Tagged.{CallTags, Honest, ByCall, GoesOn}
-use Rattle.replay.proofs.PlaceLaws.{first, later, earlier, last, no-place, at-more}
+use Rattle.replay.proofs.PlaceLaws.{first, later, earlier, no-place, at-more, holds-more, holds-ended}
 use Rattle.replay.proofs.Along.{after-append}
 use Rattle.replay.proofs.Moves.{Move, still, wrote-block, wiped-card, move, write-moves, wipe-moves}
 use Rattle.replay.proofs.Agreement.{agrees-tagged, agreement}
@@ -175,42 +175,26 @@ module _ (F : List ℕ → List ℕ) (F16 : (m : List ℕ) → length (F m) ≡ 
       ⊎-elim (λ (a : Agreement F s xs). a) (λ (f : Forgery F s xs). absurd (none-forged xs s g honest f)) (agreement F F16 xs s (g .safe))
 
 -- Lists on untouched cards
-module _ (F : List ℕ → List ℕ) (s : State) (xs : List Step) (x : Step) where
-  abbrev all : List Step
-  all = xs ++ (x ∷ [])
+module _ (F : List ℕ → List ℕ) (s : State) where
+  abbrev pub Wipes : List Step → Step → Type 0
+  Wipes before x = AcceptedWipe F (after F s before .store) x
 
-  -- what is asked of a call of the longer list: no accepted wipe stands behind it there
-  abbrev pub Asked : List Step → Step → Type 0
-  Asked before y =
-      ((q : Place (xs ++ (x ∷ []))) (between : List Step) → q .before ≡ before ++ (y ∷ between)
-      → AcceptedWipe F (known F s q .store) (q .item) → ⊥)
-      → WroteUntouched F (after F s before) y
-
-  faithful-all : ((p : Place xs) → Asked (p .before) (p .item)) → WroteUntouched F (after F s xs) x → Faithful F s (xs ++ (x ∷ []))
-  faithful-all f here p none =
-      at-more Asked xs x f (λ k. here) p (λ q between e w. none q (record { between = between; is = e }) w)
-
-  faithful-more : Faithful F s xs → WroteUntouched F (after F s xs) x → Faithful F s (xs ++ (x ∷ []))
-  faithful-more f here =
-      faithful-all (λ p none. f p (λ q b w. none (earlier (last xs x) q) (b .between) (b .is) w)) here
-
-  faithful-wiped : AcceptedWipe F (after F s xs .store) x → Faithful F s (xs ++ (x ∷ []))
-  faithful-wiped w =
-      faithful-all (λ p none. absurd (none (last xs x) (p .behind) (p .is) w)) (λ a e. absurd (write-not-wipe (x .call) e (w .is-wipe)))
+  abbrev pub Writes : List Step → Step → Type 0
+  Writes before x = WroteUntouched F (after F s before) x
 
   -- what is asked of a call of an honest list
   abbrev pub Fair : List Step → Step → Type 0
-  Fair before y = Claim.Accepted F (after F s before .store) y → (y .call ≡ wipe → ⊥) → Untouched (after F s before .store) y
+  Fair before x = Claim.Accepted F (after F s before .store) x → (x .call ≡ wipe → ⊥) → Untouched (after F s before .store) x
 
 pub goes-on : (F : List ℕ → List ℕ) (s : State) → GoesOn F s
 goes-on F s =
     record {
       honest-none = λ p. absurd (no-place p);
-      honest-more = λ xs x f h. at-more (Fair F s xs x) xs x f (λ a d. h a);
-      honest-wiped = λ xs card f.
-          let x : Step = record { card = card; call = wipe } in
-          at-more (Fair F s xs x) xs x f (λ a d. absurd (d refl));
+      honest-more = λ xs x f h. at-more (Fair F s) xs x f (λ a d. h a);
+      honest-wiped = λ xs card f. at-more (Fair F s) xs (record { card = card; call = wipe }) f (λ a d. absurd (d refl));
       faithful-none = λ p. absurd (no-place p);
-      faithful-more = λ xs x f h. faithful-more F s xs x f h;
-      faithful-wiped = λ xs card e. faithful-wiped F s xs (record { card = card; call = wipe }) (record { accepted = e; is-wipe = refl });
+      faithful-more = holds-more (Wipes F s) (Writes F s);
+      faithful-wiped = λ xs card e.
+          holds-ended (Wipes F s) (Writes F s) xs (record { card = card; call = wipe }) (record { accepted = e; is-wipe = refl })
+          (λ a w. absurd (write-not-wipe wipe w refl));
     }

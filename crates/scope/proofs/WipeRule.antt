@@ -26,7 +26,7 @@ use Rattle.tree.proofs.LabelLaws.{labels-below, blank-inner, blank-leaf}
 use Rattle.tree.proofs.NodeLaws.{leaf-node}
 use Rattle.tree.proofs.WriteLaws.{blanked-length, blanked-labels, blanked-right}
 use Rattle.tree.proofs.CallLaws.{accepted, wipe-accepts, outcome-answer, outcome-done, format-in}
-use Rattle.scope.specs.WipeRule.{Empty, Within, WipeRule, FormatRule}
+use Rattle.scope.specs.WipeRule.{Empty, WipeRule, FormatRule}
 
 blanked-empty : (key : List ℕ) (n t : ℕ) (card : List ℕ) → 1 ≤ n → length card ≡ cardLength n
     → Empty key n t (blanked (cmacOf key) n t card)
