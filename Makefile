@@ -1,6 +1,6 @@
 # The round store. `make demo` shows it; `make check` is the whole test.
 CARGO = cargo --offline
-ARCHIVES = probe_cipher probe_cmac pat
+ARCHIVES = probe_cipher probe_cmac probe_count pat
 
 .PHONY: help vectors archives test check bench clean
 
@@ -10,7 +10,8 @@ help:
 	@echo 'make test      the tests in Rust alone'
 	@echo 'make host-test the tests of the C side alone: header, calls, tool, installation'
 	@echo 'make install   the library, its header and the tool into PREFIX, under DESTDIR if given; make uninstall removes them'
-	@echo 'make bench     the speed of the proved code against other implementations, and docs/calls.svg'
+	@echo 'make bench     the speed of the proved code against other implementations, and docs/calls.svg; with BEFORE=FILE also'
+	@echo '               over that of an older libpat.a'
 	@echo 'make vectors   prove cipher and CMAC, and print the published vectors as the proved code computes them'
 	@echo 'make clean     remove what was built'
 
@@ -29,7 +30,7 @@ check:
 	@CARGO='$(CARGO)' .ci/check $(HOST_TESTS)
 
 bench: archives
-	$(CARGO) run --release --quiet -p bench -- --plot docs/calls.svg
+	BEFORE='$(BEFORE)' $(CARGO) run --release --quiet -p bench -- --plot docs/calls.svg
 
 clean:
 	rm -rf target

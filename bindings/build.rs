@@ -3,7 +3,7 @@
 use std::path::Path;
 
 /// The archives that `make archives` writes.
-const ARCHIVES: [&str; 3] = ["probe_cipher", "probe_cmac", "pat"];
+const ARCHIVES: [&str; 4] = ["probe_cipher", "probe_cmac", "probe_count", "pat"];
 
 /// Says where the archives lie.
 fn main() {

@@ -2,6 +2,7 @@
 //!
 //! Those of the cipher and CMAC are here: each answers 0 when it did its work and 1 when a length is not the one wanted.
 
+pub mod count;
 pub mod pat;
 
 extern "C" {

@@ -2,6 +2,8 @@
 //!
 //! The state is 16 bytes, column after column: row r of column c is at r + 4c.
 
+use std::cell::Cell;
+
 const ROUNDS: usize = 10;
 const KEY_WORDS: usize = 4;
 const EXPANDED: usize = 16 * (ROUNDS + 1);
@@ -148,9 +150,10 @@ fn add_round_key(state: &mut [u8; 16], expanded: &[u8; EXPANDED], round: usize) 
     }
 }
 
-/// AES-128 under one key.
+/// AES-128 under one key, which counts the blocks that it encrypts.
 pub struct Aes128 {
     expanded: [u8; EXPANDED],
+    encrypted: Cell<u64>,
 }
 
 impl Aes128 {
@@ -158,11 +161,18 @@ impl Aes128 {
     pub fn new(key: &[u8; 16]) -> Self {
         Aes128 {
             expanded: expand(key),
+            encrypted: Cell::new(0),
         }
+    }
+
+    /// How many blocks it has encrypted.
+    pub fn encrypted(&self) -> u64 {
+        self.encrypted.get()
     }
 
     /// Cipher: encrypts one block.
     pub fn encrypt(&self, block: &[u8; 16]) -> [u8; 16] {
+        self.encrypted.set(self.encrypted.get() + 1);
         let mut state = *block;
         add_round_key(&mut state, &self.expanded, 0);
         for round in 1..ROUNDS {
@@ -261,5 +271,15 @@ mod tests {
         let block = 0x00112233445566778899aabbccddeeff_u128.to_be_bytes();
         let published = 0x69c4e0d86a7b0430d8cdb78070b4c55a_u128;
         assert_eq!(Aes128::new(&key).encrypt(&block), published.to_be_bytes());
+    }
+
+    /// Each block counts once; key expansion encrypts none.
+    #[test]
+    fn count() {
+        let cipher = Aes128::new(&KEY_B.to_be_bytes());
+        for count in 0..5 {
+            assert_eq!(cipher.encrypted(), count);
+            cipher.encrypt(&[7; 16]);
+        }
     }
 }

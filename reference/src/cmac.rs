@@ -61,6 +61,11 @@ impl Cmac {
         }
     }
 
+    /// How many blocks AES has encrypted for it, that of the subkeys among them.
+    pub fn encrypted(&self) -> u64 {
+        self.cipher.encrypted()
+    }
+
     /// K1 and K2.
     pub fn subkeys(&self) -> ([u8; 16], [u8; 16]) {
         (self.first, self.second)
@@ -128,6 +133,19 @@ mod tests {
             second,
             0xf7ddac306ae266ccf90bc11ee46d513b_u128.to_be_bytes()
         );
+    }
+
+    /// The blocks that AES encrypts: one for the subkeys, then those of each message, at least one.
+    #[test]
+    fn count() {
+        let cmac = Cmac::new(&KEY.to_be_bytes());
+        assert_eq!(cmac.encrypted(), 1);
+        let mut all = 1;
+        for (length, blocks) in [(0, 1), (1, 1), (16, 1), (17, 2), (32, 2), (73, 5), (81, 6)] {
+            cmac.tag(&vec![0; length]);
+            all += blocks;
+            assert_eq!(cmac.encrypted(), all, "{length} bytes");
+        }
     }
 
     /// RFC 4493, example 1: no bytes.

@@ -1,4 +1,4 @@
-//! "Host side": the calls as C sees them, with the anchor in 32 bytes and the answer in one number.
+//! "Host side": the calls as C sees them, with the anchor in 32 bytes and the answer in one number, which leaves the count out.
 
 use crate::tree::{self, Anchor, Answer};
 
@@ -52,7 +52,7 @@ pub fn pat_read(anchor: &[u8], card: &[u8], index: u64, buffer: &mut [u8]) -> u6
     let Some(given) = anchor_of(anchor) else {
         return ANCHOR_LENGTH;
     };
-    code(&tree::read(&given, card, index, buffer))
+    code(&tree::read(&given, card, index, buffer).answer)
 }
 
 /// Write.
@@ -66,7 +66,8 @@ pub fn pat_write(
     let Some(given) = anchor_of(anchor) else {
         return ANCHOR_LENGTH;
     };
-    settle(&tree::write(&given, card, index, block, ranges), anchor)
+    let written = tree::write(&given, card, index, block, ranges);
+    settle(&written.answer, anchor)
 }
 
 /// Check.
@@ -74,7 +75,7 @@ pub fn pat_check(anchor: &[u8], card: &[u8]) -> u64 {
     let Some(given) = anchor_of(anchor) else {
         return ANCHOR_LENGTH;
     };
-    code(&tree::check(&given, card))
+    code(&tree::check(&given, card).answer)
 }
 
 /// Wipe.
@@ -82,7 +83,7 @@ pub fn pat_wipe(anchor: &mut [u8], card: &mut [u8]) -> u64 {
     let Some(given) = anchor_of(anchor) else {
         return ANCHOR_LENGTH;
     };
-    settle(&tree::wipe(&given, card), anchor)
+    settle(&tree::wipe(&given, card).answer, anchor)
 }
 
 #[cfg(test)]

@@ -12,8 +12,10 @@ pub mod ranges;
 mod words;
 
 pub use calls::{check, format, read, wipe, write};
-pub use words::{Anchor, Answer, BlockIndex, Node, Nonce, Refusal};
+pub use words::{Anchor, Answer, BlockIndex, Counted, Node, Nonce, Refusal};
 
+#[cfg(test)]
+mod counts;
 #[cfg(test)]
 mod errors;
 #[cfg(test)]

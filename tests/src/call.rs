@@ -1,8 +1,10 @@
-//! One call with all that it is given, made by the archive and by the reference.
+//! One call with all that it is given, made by the archive and by the reference, and with its count by the probe too.
 
+use crate::cards;
+use crate::counted::{self, Made};
 use crate::guarded::Guarded;
 use bindings::pat;
-use reference::host;
+use reference::{host, tree};
 
 /// Which of the calls.
 #[derive(Clone, Copy, Debug, PartialEq, Eq)]
@@ -75,6 +77,15 @@ impl Answer {
     }
 }
 
+impl From<tree::Answer> for Answer {
+    fn from(answer: tree::Answer) -> Self {
+        Answer {
+            number: answer.number(),
+            node: answer.node(),
+        }
+    }
+}
+
 impl Call {
     /// A format with this anchor and card, and nothing else lent; the rest is for the caller to set.
     pub fn on(anchor: Vec<u8>, card: Vec<u8>) -> Self {
@@ -124,7 +135,31 @@ impl Call {
         })
     }
 
+    /// Whether the call carries a count: a format does not, and no call gets at its anchor in bytes of another length.
+    pub fn carries(&self) -> bool {
+        self.kind != Kind::Format && self.anchor.len() == host::ANCHOR_BYTES
+    }
+
+    /// Makes the call with its count, in the reference and through the probe.
+    pub fn counted(&mut self) -> Made {
+        assert!(self.carries(), "no count: {}", self.short());
+        let anchor = &cards::parsed(&self.anchor);
+        let (card, block, ranges) = (&mut self.card, &mut self.block, &mut self.ranges);
+        let made = match self.kind {
+            Kind::Format => unreachable!("it carries none"),
+            Kind::Read => counted::read(anchor, card, self.index, block),
+            Kind::Write => counted::write(anchor, card, self.index, block, ranges),
+            Kind::Check => counted::check(anchor, card),
+            Kind::Wipe => counted::wipe(anchor, card),
+        };
+        if let tree::Answer::Accepted(after) = made.0.answer {
+            self.anchor = cards::anchor(&after.key, after.depth, after.root);
+        }
+        made
+    }
+
     /// Makes the call in both, which have to leave the same answer and the same bytes; a refused call leaves all as it was.
+    /// Where it carries a count it is made with that too, which has to be the same in both and to change nothing else.
     #[track_caller]
     pub fn both(&mut self) -> Answer {
         let before = self.clone();
@@ -140,6 +175,13 @@ impl Call {
         self.expect_bytes(&reference, &before.short());
         if !answer.accepted() {
             self.expect_bytes(&before, &format!("refused {}", before.short()));
+        }
+        if before.carries() {
+            let mut other = before.clone();
+            let (counted, probe) = other.counted();
+            assert_eq!(probe, counted.count, "the count of {}", before.short());
+            assert_eq!(answer, counted.answer.into(), "{}", before.short());
+            self.expect_bytes(&other, &format!("counted {}", before.short()));
         }
         answer
     }

@@ -1,5 +1,6 @@
 //! Anchors in their 32 bytes, and cards altered or made right by hand.
 
+use reference::cmac::Cmac;
 use reference::tree::{layout, messages, Anchor, Node};
 
 /// The bytes of an anchor.
@@ -11,6 +12,15 @@ pub fn anchor(key: &[u8; 16], depth: u64, root: u64) -> Vec<u8> {
 fn number(bytes: &[u8], at: usize) -> u64 {
     let eight = bytes[at..at + 8].try_into().expect("eight bytes");
     u64::from_be_bytes(eight)
+}
+
+/// The anchor in its 32 bytes.
+pub fn parsed(bytes: &[u8]) -> Anchor {
+    Anchor {
+        key: bytes[..16].try_into().expect("a key of 16 bytes"),
+        depth: depth(bytes),
+        root: root(bytes),
+    }
 }
 
 /// The depth in an anchor's bytes.
@@ -40,13 +50,10 @@ pub fn last_root(depth: u64) -> u64 {
 
 /// Makes the tags of nodes 2 and 3, the only ones that the root nonce goes into, right for this anchor.
 pub fn restamp(bytes: &[u8], card: &mut [u8]) {
-    let anchor = Anchor {
-        key: bytes[..16].try_into().expect("a key of 16 bytes"),
-        depth: depth(bytes),
-        root: root(bytes),
-    };
+    let anchor = parsed(bytes);
+    let cmac = Cmac::new(&anchor.key);
     for node in [Node(2), Node(3)] {
-        messages::put_tag(&anchor, card, node);
+        messages::put_tag(&cmac, &anchor, card, node);
     }
 }
 

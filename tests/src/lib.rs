@@ -2,6 +2,7 @@
 
 pub mod call;
 pub mod cards;
+pub mod counted;
 pub mod guarded;
 pub mod limits;
 pub mod list;

@@ -26,6 +26,11 @@ pub fn tests_of(kind: Kind) -> &'static [u64] {
     }
 }
 
+/// Whether these tests can fail: every root nonce is a multiple of 1, so that test 2 can't at that depth.
+pub fn possible(depth: u64, failing: &[Failing]) -> bool {
+    depth > 1 || failing.iter().all(|one| one.0 != 2)
+}
+
 /// A call in which exactly these tests fail, and its answer: the first of them. The depth is tested first, so that no other
 /// test is looked at with a depth that fails.
 pub fn call(list: &List, kind: Kind, failing: &[Failing], random: &mut Random) -> (Call, Answer) {

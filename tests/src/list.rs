@@ -45,6 +45,16 @@ impl List {
         }
     }
 
+    /// A list with some writes behind it.
+    pub fn used(depth: u64, random: &mut Random) -> Self {
+        let mut list = List::new(depth, random);
+        for _ in 0..3 {
+            let index = random.below(list.blocks() as usize) as u64;
+            list.write(index, random);
+        }
+        list
+    }
+
     /// The same card made right for a root nonce from which that many writes or wipes go up to the limit. Every nonce used
     /// from here on is new, as after so many of them.
     pub fn moved_before(mut self, limit: u64, room: u64) -> Self {

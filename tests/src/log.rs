@@ -1,9 +1,10 @@
 //! The log that the program `histories` prints, made by the reference alone.
 //!
 //! For each depth from 1 to 6: a line with the depth, then a line for the format (step 0, kind 17) and for each of 500 steps:
-//! step, kind, answer number, node, root nonce, and the Adler-32 of card, read buffer and range buffer.
+//! step, kind, answer number, node, count of AES calls (0 for the format), root nonce, and the Adler-32 of card, read buffer and
+//! range buffer.
 
-use reference::tree::{self, layout, Anchor, Answer, Node};
+use reference::tree::{self, layout, Anchor, Answer, Counted, Node};
 use std::fmt::Write;
 
 const DEPTHS: std::ops::RangeInclusive<u64> = 1..=6;
@@ -73,13 +74,13 @@ impl Run {
         (run, answer)
     }
 
-    /// One step; gives its kind and answer.
-    fn step(&mut self) -> (u64, Answer) {
+    /// One step; gives its kind, and its answer with the count.
+    fn step(&mut self) -> (u64, Counted) {
         self.buffer = FRESH_BUFFER;
         self.ranges = FRESH_RANGES;
         let kind = self.draws.draw() % KINDS;
         let index = self.draws.draw() % layout::blocks(self.anchor.depth);
-        let answer = match kind {
+        let counted = match kind {
             0..=4 => self.write(index),
             5..=8 => self.read(index),
             9 => self.check(),
@@ -94,36 +95,36 @@ impl Run {
             }
             _ => self.wiped(),
         };
-        (kind, answer)
+        (kind, counted)
     }
 
     /// Reads a block of the card.
-    fn read(&mut self, index: u64) -> Answer {
+    fn read(&mut self, index: u64) -> Counted {
         tree::read(&self.anchor, &self.card, index, &mut self.buffer)
     }
 
     /// Writes a block that is drawn.
-    fn write(&mut self, index: u64) -> Answer {
+    fn write(&mut self, index: u64) -> Counted {
         let block: [u8; 64] = self.draws.bytes();
         let (card, ranges) = (&mut self.card, &mut self.ranges);
-        let answer = tree::write(&self.anchor, card, index, &block, ranges);
-        if let Answer::Accepted(anchor) = answer {
+        let counted = tree::write(&self.anchor, card, index, &block, ranges);
+        if let Answer::Accepted(anchor) = counted.answer {
             self.anchor = anchor;
         }
-        answer
+        counted
     }
 
     /// Checks the card.
-    fn check(&mut self) -> Answer {
+    fn check(&mut self) -> Counted {
         tree::check(&self.anchor, &self.card)
     }
 
     /// Makes a call while one bit of the card is flipped.
-    fn with_a_bit_flipped(&mut self, call: impl FnOnce(&mut Run) -> Answer) -> Answer {
+    fn with_a_bit_flipped(&mut self, call: impl FnOnce(&mut Run) -> Counted) -> Counted {
         let (at, bit) = self.flip();
-        let answer = call(self);
+        let counted = call(self);
         self.card[at] ^= bit;
-        answer
+        counted
     }
 
     /// Flips a bit of the card that is drawn, and says which.
@@ -135,7 +136,7 @@ impl Run {
     }
 
     /// Makes a call on the card with two nodes of the old one; an accepted write makes that the card.
-    fn mixed(&mut self, index: u64) -> Answer {
+    fn mixed(&mut self, index: u64) -> Counted {
         let depth = self.anchor.depth;
         let card = self.card.clone();
         for _ in 0..2 {
@@ -144,19 +145,19 @@ impl Run {
             self.card[entry.clone()].copy_from_slice(&self.old[entry]);
         }
         let choice = self.draws.draw() % 3;
-        let answer = match choice {
+        let counted = match choice {
             0 => self.read(index),
             1 => self.check(),
             _ => self.write(index),
         };
-        if choice < 2 || answer.number() != 0 {
+        if choice < 2 || counted.answer.number() != 0 {
             self.card = card;
         }
-        answer
+        counted
     }
 
     /// Makes a call that a limit refuses.
-    fn beyond_a_limit(&mut self, index: u64) -> Answer {
+    fn beyond_a_limit(&mut self, index: u64) -> Counted {
         let (anchor, card) = (&self.anchor, &mut self.card);
         match self.draws.draw() % 4 {
             0 => {
@@ -178,7 +179,7 @@ impl Run {
 
     /// Wipes the card, in three of four cases spoiled: with a bit flipped, with other bytes, or the old card; or makes a wipe
     /// that a limit refuses.
-    fn wiped(&mut self) -> Answer {
+    fn wiped(&mut self) -> Counted {
         match self.draws.draw() % 8 {
             0 => {}
             1 => _ = self.flip(),
@@ -186,16 +187,16 @@ impl Run {
             3 => self.card.clone_from(&self.old),
             _ => return self.wipe_beyond_a_limit(),
         }
-        let answer = tree::wipe(&self.anchor, &mut self.card);
-        if let Answer::Accepted(anchor) = answer {
+        let counted = tree::wipe(&self.anchor, &mut self.card);
+        if let Answer::Accepted(anchor) = counted.answer {
             self.anchor = anchor;
         }
-        answer
+        counted
     }
 
     /// Makes a wipe with a short card, too great a depth, a root nonce that is no multiple, or the last multiple. At depth 1
     /// every number is a multiple, and the last number stands for the third.
-    fn wipe_beyond_a_limit(&mut self) -> Answer {
+    fn wipe_beyond_a_limit(&mut self) -> Counted {
         let Anchor { key, depth, root } = self.anchor;
         let (deeper, bytes) = (depth + 16, self.card.len());
         let (depth, root, bytes) = match self.draws.draw() % 4 {
@@ -210,9 +211,10 @@ impl Run {
     }
 
     /// The line of a step.
-    fn line(&self, step: u64, kind: u64, answer: Answer) -> String {
+    fn line(&self, step: u64, kind: u64, counted: Counted) -> String {
+        let Counted { answer, count } = counted;
         format!(
-            "{step} {kind} {} {} {} {} {} {}",
+            "{step} {kind} {} {} {count} {} {} {} {}",
             answer.number(),
             answer.node(),
             self.anchor.root,
@@ -230,10 +232,10 @@ pub fn log() -> String {
     for depth in DEPTHS {
         let (mut run, answer) = Run::start(depth);
         put(format!("depth {depth}"));
-        put(run.line(0, FORMAT, answer));
+        put(run.line(0, FORMAT, Counted { answer, count: 0 }));
         for step in 1..=STEPS {
-            let (kind, answer) = run.step();
-            put(run.line(step, kind, answer));
+            let (kind, counted) = run.step();
+            put(run.line(step, kind, counted));
         }
     }
     log

@@ -45,14 +45,14 @@ fn expect(call: &Call, set: u64, order: impl IntoIterator<Item = u64>) {
     let mut call = call.clone();
     let first = order.into_iter().find(|&node| has(set, node));
     let expected = first.map_or(Answer::ACCEPTED, Answer::wrong);
-    assert_eq!(call.archive(), expected, "set {set:b}: {}", call.short());
+    assert_eq!(call.both(), expected, "set {set:b}: {}", call.short());
 }
 
 /// Expects that a wipe of this card leaves what a wipe of the other did.
 fn expect_wiped(call: &Call, wiped: &Call) {
     let mut call = call.clone();
     call.kind = Kind::Wipe;
-    assert_eq!(call.archive(), Answer::ACCEPTED);
+    assert_eq!(call.both(), Answer::ACCEPTED);
     call.expect_bytes(wiped, "wiped");
 }
 

@@ -36,8 +36,8 @@ fn histories() -> Vec<Vec<Step>> {
         histories.last_mut().expect("a depth").push(Step {
             kind: numbers[1],
             number: numbers[2],
-            root: numbers[4],
-            card: numbers[5],
+            root: numbers[5],
+            card: numbers[6],
         });
     }
     histories

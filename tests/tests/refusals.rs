@@ -1,5 +1,6 @@
 //! Every refusal of every call, alone and with others: the first test that fails gives the answer, and no byte changes.
 
+use reference::cmac::Cmac;
 use reference::tree::{layout, messages, Anchor};
 use tests::call::{Answer, Call, Kind};
 use tests::cards;
@@ -12,21 +13,6 @@ const DEPTHS: std::ops::RangeInclusive<u64> = 1..=4;
 
 /// Each set of tests comes up this often, in ways chosen at random.
 const REPEATS: usize = 20;
-
-/// A list with some writes behind it.
-fn used(depth: u64, random: &mut Random) -> List {
-    let mut list = List::new(depth, random);
-    for _ in 0..3 {
-        let index = random.below(list.blocks() as usize) as u64;
-        list.write(index, random);
-    }
-    list
-}
-
-/// Every root nonce is a multiple of 1, so that test 2 can't fail there.
-fn possible(depth: u64, failing: &[Failing]) -> bool {
-    depth > 1 || failing.iter().all(|one| one.0 != 2)
-}
 
 /// Expects the answer of the first of these tests. A refused call leaves every byte as it was.
 fn expect(list: &List, kind: Kind, failing: &[Failing], random: &mut Random, tally: &mut Tally) {
@@ -41,12 +27,12 @@ fn expect(list: &List, kind: Kind, failing: &[Failing], random: &mut Random, tal
 fn singles_and_pairs() {
     let (mut random, mut tally) = (Random::new(0x70616972), Tally::default());
     for depth in DEPTHS {
-        let list = used(depth, &mut random);
+        let list = List::used(depth, &mut random);
         for kind in Kind::ALL {
             let all: Vec<Failing> = limits::tests_of(kind)
                 .iter()
                 .flat_map(|&test| (0..WAYS).map(move |way| (test, way)))
-                .filter(|&one| possible(depth, &[one]))
+                .filter(|&one| limits::possible(depth, &[one]))
                 .collect();
             for (at, &one) in all.iter().enumerate() {
                 expect(&list, kind, &[one], &mut random, &mut tally);
@@ -64,7 +50,7 @@ fn singles_and_pairs() {
 fn every_set() {
     let (mut random, mut tally) = (Random::new(0x736574), Tally::default());
     for depth in DEPTHS {
-        let list = used(depth, &mut random);
+        let list = List::used(depth, &mut random);
         for kind in Kind::ALL {
             let tests = limits::tests_of(kind);
             for set in 0..1 << tests.len() {
@@ -72,7 +58,7 @@ fn every_set() {
                     let chosen = (0..tests.len()).filter(|at| set >> at & 1 == 1);
                     let failing: Vec<Failing> =
                         chosen.map(|at| (tests[at], random.below(WAYS))).collect();
-                    if possible(depth, &failing) {
+                    if limits::possible(depth, &failing) {
                         expect(&list, kind, &failing, &mut random, &mut tally);
                     }
                 }
@@ -92,9 +78,9 @@ fn only_the_depth() {
         depth,
         root: 0,
     };
-    let mut card = vec![0; layout::card_bytes(depth)];
+    let (cmac, mut card) = (Cmac::new(&anchor.key), vec![0; layout::card_bytes(depth)]);
     for node in layout::nodes(depth) {
-        messages::put_tag(&anchor, &mut card, node);
+        messages::put_tag(&cmac, &anchor, &mut card, node);
     }
     let mut call = Call::on(cards::anchor(&anchor.key, depth, 0), card);
     call.block = vec![3; 64];

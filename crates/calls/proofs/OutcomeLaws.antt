@@ -1,53 +1,48 @@
--- How the code comes to an outcome: limit by limit, and then by the first wrong tag.
+-- How the code comes to an outcome limit by limit: refused by the first that fails, it makes no call of the cipher.
 use mathlib.Core.Path.{_≡_, refl, sym, ap, _∙_}
-use mathlib.Core.List.{List, [], _∷_, _++_}
+use mathlib.Core.List.{List, [], _∷_}
 use mathlib.Core.Option.{Option, none, some}
-use Prim.Native.Nat.{ℕ, _+_, _*_, _^_}
+use Prim.Native.Nat.{ℕ}
 use types.Run.{OneOf, miss}
 use denote.Enum.Declared.{tagOf}
-use lib.ListN.{length, drop}
-use Rattle.tree.specs.Layout.{IsCard, label}
-use Rattle.tree.specs.Card.{blanked, written, firstWrong}
-use Rattle.tree.specs.Ranges.{rangesOf, encode}
+use lib.ListN.{length}
+use Rattle.cmac.specs.Cmac.{cmacOf}
+use Rattle.cmac.specs.Traced.{subkeysCount, cmacCount}
+use Rattle.tree.specs.Layout.{IsCard}
+use Rattle.tree.specs.Card.{blanked}
 use Rattle.tree.specs.Limits.{depthLimit, cardLimit, firstFailing}
-use Rattle.tree.specs.Calls.{Call, read, write, check, wipe, Gives, lentTo, firstLimits, ownLimits, limits, checks}
-use Rattle.tree.specs.Calls.{verdict, rooted, answerOf, settled, outcome, formatAnswer, format}
+use Rattle.tree.specs.Calls.{Call, Gives, Reports, lentTo, firstLimits, ownLimits, limits, verdict, rooted, answerOf, outcome}
+use Rattle.tree.specs.Calls.{formatAnswer, format}
 use Rattle.tree.specs.declared.Anchor.{Anchor}
 use Rattle.tree.specs.declared.Refusal.{Refusal}
 use Rattle.tree.specs.declared.Answer.{Answer}
-use Rattle.tree.specs.declared.Answer.the-variants.{Whole, Wrong, Refused}
+use Rattle.tree.specs.declared.Answer.the-variants.{Whole, Refused}
 use Rattle.tree.proofs.Answer as T
 use Rattle.tree.proofs.LimitLaws.{stop-first, skip-first, Sound, first-passed}
 use Rattle.tree.proofs.CallLaws.{verdict-whole, format-accept}
 
-module _ (F : List ℕ → List ℕ) (a : Anchor) (card : List ℕ) (c : Call) where
-  pub refuses : (r : Refusal) → firstFailing (limits a card c) ≡ some r → Gives (outcome F a card c) (Refused r) a card (lentTo c)
-  unfolding outcome answerOf
-  refuses r e = rw e (record { answered = refl; anchored = refl; left = refl; filled = refl })
+-- what the contract says of a call that answers x and leaves the rest
+abbrev Stays : Anchor → List ℕ → Call → Answer → Type 0
+Stays a card c x =
+    Reports (subkeysCount (a .key)) (cmacCount (a .key)) (outcome (cmacOf (a .key)) a card c) x 0 a card (lentTo c)
 
-  pub settles : (x : Answer) → firstFailing (limits a card c) ≡ none
-      → x ≡ verdict none (firstWrong F (a .depth) (a .root .0) card (checks (a .depth) c)) → outcome F a card c ≡ settled F x a card c
+module _ (a : Anchor) (card : List ℕ) (c : Call) where
+  pub refuses : (r : Refusal) → firstFailing (limits a card c) ≡ some r → Stays a card c (Refused r)
   unfolding outcome answerOf
-  settles x e f = rw (e, f)
-
-  -- an answer that is not whole
-  pub gives-wrong : (x : Answer) → OneOf (1 ∷ 2 ∷ []) (tagOf T.the-type x) → outcome F a card c ≡ settled F x a card c
-      → Gives (outcome F a card c) x a card (lentTo c)
-  gives-wrong Whole k e = absurd (miss (1 ∷ 2 ∷ []) 0 tt k)
-  gives-wrong (Wrong u) k e = rw e (record { answered = refl; anchored = refl; left = refl; filled = refl })
-  gives-wrong (Refused r) k e = rw e (record { answered = refl; anchored = refl; left = refl; filled = refl })
+  refuses r e =
+      rw e (record { gives = record { answered = refl; anchored = refl; left = refl; filled = refl }; counted = refl })
 
   -- The first limits refuse: the call does. They are passed: its own decide.
 
   first-refuses : (r : Option Refusal) → firstFailing (firstLimits a (length card)) ≡ r
-      → OneOf (1 ∷ 2 ∷ []) (tagOf T.the-type (verdict r none)) → Gives (outcome F a card c) (verdict r none) a card (lentTo c)
+      → OneOf (1 ∷ 2 ∷ []) (tagOf T.the-type (verdict r none)) → Stays a card c (verdict r none)
   unfolding limits
   first-refuses none e k = absurd (miss (1 ∷ 2 ∷ []) 0 tt k)
   first-refuses (some r) e k = refuses r (stop-first (firstLimits a (length card)) (ownLimits a c) r e)
 
-  pub gives-first : (x : Answer) → x ≡ verdict (firstFailing (firstLimits a (length card))) none → OneOf (1 ∷ 2 ∷ []) (tagOf T.the-type x)
-      → Gives (outcome F a card c) x a card (lentTo c)
-  gives-first x e k = rw e (first-refuses (firstFailing (firstLimits a (length card))) refl (rw e at k))
+  pub reports-first : (x : Answer) → x ≡ verdict (firstFailing (firstLimits a (length card))) none
+      → OneOf (1 ∷ 2 ∷ []) (tagOf T.the-type x) → Stays a card c x
+  reports-first x e k = rw e (first-refuses (firstFailing (firstLimits a (length card))) refl (rw e at k))
 
 module _ (a : Anchor) (card : List ℕ) {x : Answer} (e : x ≡ verdict (firstFailing (firstLimits a (length card))) none) (w : x ≡ Whole) where
   none-first : firstFailing (firstLimits a (length card)) ≡ none
@@ -59,35 +54,6 @@ module _ (a : Anchor) (card : List ℕ) {x : Answer} (e : x ≡ verdict (firstFa
   pub own-decide : (c : Call) → firstFailing (limits a card c) ≡ firstFailing (ownLimits a c)
   unfolding limits
   own-decide c = skip-first (firstLimits a (length card)) (ownLimits a c) none-first
-
--- a check leaves everything, whatever it answers
-pub gives-check : (F : List ℕ → List ℕ) (a : Anchor) (card : List ℕ) (x : Answer) → outcome F a card check ≡ settled F x a card check
-    → Gives (outcome F a card check) x a card []
-gives-check F a card Whole e = rw e (record { answered = refl; anchored = refl; left = refl; filled = refl })
-gives-check F a card (Wrong u) e = rw e (record { answered = refl; anchored = refl; left = refl; filled = refl })
-gives-check F a card (Refused r) e = rw e (record { answered = refl; anchored = refl; left = refl; filled = refl })
-
--- a read that is whole gives the block, and a write the card, the anchor and the ranges
-pub gives-read : (F : List ℕ → List ℕ) (a : Anchor) (card : List ℕ) (i : ℕ) (buffer lent : List ℕ)
-    → outcome F a card (read i buffer) ≡ settled F Whole a card (read i buffer) → lent ≡ label (a .depth) card (2 ^ a .depth + i)
-    → Gives (outcome F a card (read i buffer)) Whole a card lent
-gives-read F a card i buffer lent e f = rw e (record { answered = refl; anchored = refl; left = refl; filled = f })
-
-pub gives-write : (F : List ℕ → List ℕ) (a : Anchor) (card : List ℕ) (i : ℕ) (block ranges : List ℕ) (b : Anchor) (card' lent : List ℕ)
-    → outcome F a card (write i block ranges) ≡ settled F Whole a card (write i block ranges)
-    → b ≡ rooted a (a .root .0 + a .depth)
-    → card' ≡ written F (a .depth) (a .root .0) (a .root .0) card i block
-    → lent ≡ encode (rangesOf (a .depth) i) ++ drop (16 * a .depth) ranges
-    → Gives (outcome F a card (write i block ranges)) Whole b card' lent
-gives-write F a card i block ranges b card' lent e h f g = rw e (record { answered = refl; anchored = h; left = f; filled = g })
-
--- a wipe within its limits is whole, and gives the card and the anchor
-pub gives-wipe : (F : List ℕ → List ℕ) (a : Anchor) (card : List ℕ) (b : Anchor) (card' : List ℕ)
-    → firstFailing (limits a card wipe) ≡ none → b ≡ rooted a (a .root .0 + a .depth)
-    → card' ≡ blanked F (a .depth) (a .root .0 + a .depth) card → Gives (outcome F a card wipe) Whole b card' []
-unfolding checks firstWrong
-gives-wipe F a card b card' e h f =
-    rw (settles F a card wipe Whole e refl) (record { answered = refl; anchored = h; left = f; filled = refl })
 
 -- Format
 

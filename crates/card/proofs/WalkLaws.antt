@@ -1,16 +1,27 @@
--- The first wrong node of a list, test by test and level by level.
+-- The first wrong node of a list and the messages checked until it is found, test by test and level by level.
 use Prim.Native.Nat.{ℕ, zero, suc, _+_, _<_, _≤_}
-use mathlib.Core.Path.{_≡_, refl, sym, ap, subst, _∙_}
+use mathlib.Core.Path.{_≡_, refl, sym, ap, ap₂, subst, _∙_}
 use mathlib.Core.Bool.{Bool, true, false, cond}
 use mathlib.Core.List.{List, [], _∷_, _++_}
 use mathlib.Core.Logic.{_⊎_, inl, inr}
 use mathlib.Core.Option.{Option, none, some}
-use native.Mathlib.Nat.{eq-or-lt-of-le}
+use native.Mathlib.Nat.{add-zero, eq-or-lt-of-le}
 use native.Mathlib.Numerals.{add-one}
 use native.Mathlib.Omega.{arith}
+use lib.ListN.{length}
+use Rattle.cmac.specs.Traced.{countUnder}
+use Rattle.cmac.proofs.TraceLaws.{count-bound}
+use Rattle.tree.specs.Layout.{IsNode, IsCard}
 use Rattle.tree.specs.Nodes.{upTo}
-use Rattle.tree.specs.Card.{right, firstWrong}
+use Rattle.tree.specs.Labels.{message, labels}
+use Rattle.tree.specs.Card.{right, firstWrong, checked}
+use Rattle.tree.specs.Calls.{verdict, total}
 use Rattle.tree.specs.Tests.{passing}
+use Rattle.tree.proofs.ByteLaws.{length-be}
+use Rattle.tree.proofs.LayoutLaws.{size-low}
+use Rattle.tree.proofs.LabelLaws.{labels-root, labels-sized}
+use Rattle.tree.proofs.CountLaws.{total-append, checked-after, checked-before, length-message}
+use Rattle.tree.specs.declared.Answer.{Answer}
 use Rattle.tree.specs.declared.limits.Test.{Test}
 use Rattle.tree.specs.declared.limits.Test.the-variants.{Passed, Failed}
 
@@ -27,7 +38,21 @@ abbrev orElse : Option ℕ → Option ℕ → Option ℕ
 orElse none q = q
 orElse (some u) q = some u
 
-module _ (F : List ℕ → List ℕ) (n t : ℕ) (card : List ℕ) where
+module _ (F : List ℕ → List ℕ) (each : List ℕ → ℕ) (n t : ℕ) (card : List ℕ) where
+  -- along the list us the first wrong node is w, and the messages checked until then take k calls of the cipher
+  pub record Walked (us : List ℕ) (w : Option ℕ) (k : ℕ) : Type 0 where
+    pub found : firstWrong F n t card us ≡ w
+    pub took : k ≡ total each (checked F n t card us)
+
+  pub none-walked : Walked [] none 0
+  unfolding firstWrong checked total
+  none-walked = record { found = refl; took = refl }
+
+  -- what was walked is what the walk answers
+  pub answers : {us : List ℕ} {w : Option ℕ} {k : ℕ} {x : Answer} {j : ℕ} → Walked us w k → x ≡ verdict none w → j ≡ k
+      → (x ≡ verdict none (firstWrong F n t card us)) × (j ≡ total each (checked F n t card us))
+  answers p e q = (e ∙ ap (verdict none) (sym (p .found)), q ∙ p .took)
+
   -- One list after another
 
   wrong-append : (us vs : List ℕ) → firstWrong F n t card (us ++ vs) ≡ orElse (firstWrong F n t card us) (firstWrong F n t card vs)
@@ -41,56 +66,74 @@ module _ (F : List ℕ → List ℕ) (n t : ℕ) (card : List ℕ) where
       go e true = e
       go e false = refl
 
-  pub wrong-after : (us vs : List ℕ) → firstWrong F n t card us ≡ none → firstWrong F n t card (us ++ vs) ≡ firstWrong F n t card vs
-  wrong-after us vs e = wrong-append us vs ∙ rw e
+  pub walked-on : {us vs : List ℕ} {w : Option ℕ} {a b k : ℕ} → Walked us none a → Walked vs w b → k ≡ a + b → Walked (us ++ vs) w k
+  walked-on {us} {vs} p q e =
+      record {
+        found = wrong-append us vs ∙ rw (p .found) (q .found);
+        took =
+            e ∙ ap₂ _+_ (p .took) (q .took) ∙ sym (total-append each (checked F n t card us) (checked F n t card vs))
+            ∙ ap (total each) (sym (checked-after F n t card us vs (p .found)));
+      }
 
-  pub wrong-before : (us vs : List ℕ) (u : ℕ) → firstWrong F n t card us ≡ some u → firstWrong F n t card (us ++ vs) ≡ some u
-  wrong-before us vs u e = wrong-append us vs ∙ rw e
+  pub walked-out : {us : List ℕ} {u k : ℕ} (vs : List ℕ) → Walked us (some u) k → Walked (us ++ vs) (some u) k
+  walked-out {us} {u} vs p =
+      record {
+        found = wrong-append us vs ∙ rw (p .found);
+        took = p .took ∙ ap (total each) (sym (checked-before F n t card us vs u (p .found)));
+      }
 
-  -- The node u that stands first, by its test
+  -- A node u alone, by its test
 
-  module _ {u v : ℕ} (e : u ≡ v) (us : List ℕ) {r : Test} (tested : r ≡ passing (right F n t card u)) where
-    pub first-right : r ≡ Passed → firstWrong F n t card (v ∷ us) ≡ firstWrong F n t card us
-    unfolding firstWrong
-    first-right p = ap (λ (w : ℕ). firstWrong F n t card (w ∷ us)) (sym e) ∙ rw (was-passed (right F n t card u) tested p)
+  alone : (m : List ℕ) (b : Bool) → each m ≡ total each (m ∷ cond b [] [])
+  unfolding total
+  alone m true = sym (add-zero (each m))
+  alone m false = sym (add-zero (each m))
 
-    pub first-wrong : r ≡ Failed → firstWrong F n t card (v ∷ us) ≡ some u
-    unfolding firstWrong
-    first-wrong p = ap (λ (w : ℕ). firstWrong F n t card (w ∷ us)) (sym e) ∙ rw (was-failed (right F n t card u) tested p)
+  module _ {u v : ℕ} (e : u ≡ v) {r : Test} (tested : r ≡ passing (right F n t card u)) {k : ℕ}
+      (counted : k ≡ each (message (labels n t card) u)) where
+    pub right-walked : r ≡ Passed → Walked (v ∷ []) none k
+    unfolding firstWrong checked
+    right-walked p =
+        subst (λ (w : ℕ). Walked (w ∷ []) none k) e
+        (record { found = rw (was-passed (right F n t card u) tested p); took = counted ∙ alone _ (right F n t card u) })
 
-  pub none-left : firstWrong F n t card [] ≡ none
-  unfolding firstWrong
-  none-left = refl
+    pub wrong-walked : r ≡ Failed → Walked (v ∷ []) (some u) k
+    unfolding firstWrong checked
+    wrong-walked p =
+        subst (λ (w : ℕ). Walked (w ∷ []) (some u) k) e
+        (record { found = rw (was-failed (right F n t card u) tested p); took = counted ∙ alone _ (right F n t card u) })
 
   -- Level by level
 
   module _ (f : ℕ → List ℕ) where
-    pub walk-start : firstWrong F n t card (upTo 0 f) ≡ none
+    pub walk-start : Walked (upTo 0 f) none 0
     unfolding upTo
-    walk-start = none-left
+    walk-start = none-walked
 
-    walk-next : (y : ℕ) → firstWrong F n t card (upTo y f) ≡ none
-        → firstWrong F n t card (upTo (y + 1) f) ≡ firstWrong F n t card (f (y + 1))
+    pub walk-more : (y : ℕ) {w : Option ℕ} {a b k : ℕ} → Walked (upTo y f) none a → Walked (f (y + 1)) w b → k ≡ a + b
+        → Walked (upTo (y + 1) f) w k
     unfolding upTo
-    walk-next y e = rw add-one (wrong-after (upTo y f) (f (suc y)) e)
+    walk-more y p q e = rw add-one (walked-on p (rw add-one at q) e)
 
-    -- level y + 1 is right too
-    pub walk-more : (y : ℕ) → firstWrong F n t card (upTo y f) ≡ none → firstWrong F n t card (f (y + 1)) ≡ none
-        → firstWrong F n t card (upTo (y + 1) f) ≡ none
-    walk-more y e p = walk-next y e ∙ p
-
-    walk-found : (y k u : ℕ) → y ≤ k → firstWrong F n t card (upTo y f) ≡ some u → firstWrong F n t card (upTo k f) ≡ some u
+    -- a wrong node on level y is the first of all k levels
+    pub walk-out : (y k u c : ℕ) → y ≤ k → Walked (upTo y f) (some u) c → Walked (upTo k f) (some u) c
     unfolding upTo
-    walk-found zero zero u h e = e
-    walk-found (suc y) zero u h e = absurd (omega arith)
-    walk-found y (suc k) u h e = go (λ l. walk-found y k u l e) (eq-or-lt-of-le h)
+    walk-out zero zero u c h p = p
+    walk-out (suc y) zero u c h p = absurd (omega arith)
+    walk-out y (suc k) u c h p = go (λ l. walk-out y k u c l p) (eq-or-lt-of-le h)
       where
-        go : (y ≤ k → firstWrong F n t card (upTo k f) ≡ some u) → (y ≡ suc k) ⊎ (y < suc k)
-            → firstWrong F n t card (upTo k f ++ f (suc k)) ≡ some u
-        go down (inl p) = subst (λ (z : ℕ). firstWrong F n t card (upTo z f) ≡ some u) p e
-        go down (inr l) = wrong-before (upTo k f) (f (suc k)) u (down (omega arith))
+        go : (y ≤ k → Walked (upTo k f) (some u) c) → (y ≡ suc k) ⊎ (y < suc k) → Walked (upTo k f ++ f (suc k)) (some u) c
+        go down (inl e) = subst (λ (z : ℕ). Walked (upTo z f) (some u) c) e p
+        go down (inr l) = walked-out (f (suc k)) (down (omega arith))
 
-    -- level y + 1 has the first wrong one of all k levels
-    pub walk-wrong : (y k u : ℕ) → y < k → firstWrong F n t card (upTo y f) ≡ none → firstWrong F n t card (f (y + 1)) ≡ some u
-        → firstWrong F n t card (upTo k f) ≡ some u
-    walk-wrong y k u h e p = walk-found (y + 1) k u (omega arith) (walk-next y e ∙ p)
+-- Few calls
+
+-- a node's message has at most 73 bytes, and so takes at most five calls
+pub few-calls : (schedule subkeys m : List ℕ) (k : ℕ) → k ≡ countUnder schedule subkeys m → length m ≤ 73 → k ≤ 5
+few-calls schedule subkeys m k e h = omega (arith, count-bound schedule subkeys m)
+
+pub few-checked : (schedule subkeys : List ℕ) (n t : ℕ) (card : List ℕ) (u k : ℕ) → IsCard n card → IsNode n u
+    → k ≡ countUnder schedule subkeys (message (labels n t card) u) → k ≤ 5
+few-checked schedule subkeys n t card u k d h e =
+    let l = length-message n (labels n t card) (labels-sized n t card (d .full)) (ap length (labels-root n t card) ∙ length-be 8 t) u h in
+    few-calls schedule subkeys _ k e (omega (arith, l, size-low n u))

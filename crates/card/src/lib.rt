@@ -1,4 +1,3 @@
-// What is done on a card: tags of its nodes, the nodes that a call checks, and labels and tags put in their places.
-pub mod stamp;
+// What is looked at on a card: tags of its nodes, and the nodes that a call checks.
 pub mod tag;
 pub mod walk;

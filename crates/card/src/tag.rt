@@ -1,19 +1,26 @@
 // Tags of nodes. The cipher's table and the context's two parts are made once in a call and lent.
+use cmac::Tagged;
 use tree::Node;
 use tree::Nonce;
 use tree::layout;
 use tree::limits::Test;
-use words::Block;
 ghost use mathlib.Core.Path.{_≡_};
 ghost use Prim.Native.Nat.{_^_, _≤_, _<_};
 ghost use lib.ListN.{length};
 ghost use Rattle.words.specs.Bytes.{same};
 ghost use Rattle.words.specs.Words.{bytes, blockOf};
 ghost use Rattle.cmac.specs.Context.{IsTable, tagUnder};
+ghost use Rattle.cmac.specs.Traced.{countUnder};
 ghost use Rattle.tree.specs.Layout.{IsNode, IsCard};
-ghost use Rattle.tree.specs.Labels.{form, labels};
+ghost use Rattle.tree.specs.Labels.{form, message, labels};
 ghost use Rattle.tree.specs.Card.{right};
 ghost use Rattle.tree.specs.Tests.{passing};
+
+// Whether a tag is right, with the count of the cipher's calls for it.
+pub struct Tested {
+    pub test: Test,
+    pub count: u64,
+}
 
 // The tag of a node that has this label, its parent's label, and that side.
 pub fn of<'a>(
@@ -23,11 +30,13 @@ pub fn of<'a>(
     label: &[u8],
     parent: u64,
     side: u8,
-) -> Block
+) -> Tagged
     requires { ⌜ IsTable (now table) ⌝ }
     requires { ⌜ length (now label) ≤ 64 ⌝ }
-    ensures { λ r. ⌜ blockOf r
+    ensures { λ r. ⌜ blockOf (r .block)
         ≡ tagUnder (now (schedule .entry)) (now (subkeys .entry)) (form (now (label .entry)) (bytes 8 parent) side) ⌝ }
+    ensures { λ r. ⌜ r .count
+        ≡ countUnder (now (schedule .entry)) (now (subkeys .entry)) (form (now (label .entry)) (bytes 8 parent) side) ⌝ }
 {
     let mut message = [0u8; 73];
     let len = label.len();
@@ -47,19 +56,27 @@ fn test<'a>(
     parent: u64,
     side: u8,
     tag: &[u8],
-) -> Test
+) -> Tested
     requires { ⌜ IsTable (now table) ⌝ }
     requires { ⌜ length (now label) ≤ 64 ⌝ }
     requires { ⌜ length (now tag) ≡ 16 ⌝ }
-    ensures { λ r. ⌜ r ≡ passing (same
+    ensures { λ r. ⌜ r .test ≡ passing (same
         (tagUnder (now (schedule .entry)) (now (subkeys .entry)) (form (now (label .entry)) (bytes 8 parent) side))
         (now (tag .entry))) ⌝ }
+    ensures { λ r. ⌜ r .count
+        ≡ countUnder (now (schedule .entry)) (now (subkeys .entry)) (form (now (label .entry)) (bytes 8 parent) side) ⌝ }
 {
     let made = of(table, schedule, subkeys, label, parent, side);
-    if words::equal(made, words::block_at(tag, 0)) {
-        return Test::Passed;
+    if words::equal(made.block, words::block_at(tag, 0)) {
+        return Tested {
+            test: Test::Passed,
+            count: made.count,
+        };
     }
-    Test::Failed
+    Tested {
+        test: Test::Failed,
+        count: made.count,
+    }
 }
 
 // The label of the root or of an inner node.
@@ -83,12 +100,14 @@ pub fn node<'a>(
     root: Nonce,
     card: &[u8],
     node: Node,
-) -> Test
+) -> Tested
     requires { ⌜ IsTable (now table) ⌝ }
     requires { ⌜ IsCard depth (now card) ⌝ }
     requires { ⌜ IsNode depth (node .0) ⌝ }
-    ensures { λ r. ⌜ r ≡ passing
+    ensures { λ r. ⌜ r .test ≡ passing
         (right (tagUnder (now (schedule .entry)) (now (subkeys .entry))) depth (root .0) (now (card .entry)) (node .0)) ⌝ }
+    ensures { λ r. ⌜ r .count
+        ≡ countUnder (now (schedule .entry)) (now (subkeys .entry)) (message (labels depth (root .0) (now (card .entry))) (node .0)) ⌝ }
 {
     let u = node.0;
     let start = layout::offset(depth, node);

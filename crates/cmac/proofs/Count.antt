@@ -21,6 +21,17 @@ blocks-some : (k : ℕ) → blocks (suc k) ≡ (suc k + 15) / 16
 unfolding blocks
 blocks-some k = rw eqb·suc-zero
 
+-- there is a last one
+pub some-blocks : (len : ℕ) → blocks len - 1 + 1 ≡ blocks len
+unfolding blocks
+some-blocks zero = refl
+some-blocks (suc k) = omega (arith, blocks-some k)
+
+pub blocks-bound : (len : ℕ) → 16 * blocks len ≤ len + 16
+unfolding blocks
+blocks-bound zero = omega arith
+blocks-bound (suc k) = omega (arith, blocks-some k)
+
 pub counted : (len : ℕ) → Counted len (blocks len - 1)
 unfolding blocks complete
 counted zero = record { low = omega arith; high = omega arith; full = λ e. absurd (omega arith); short = λ e. refl }

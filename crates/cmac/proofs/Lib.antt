@@ -4,4 +4,5 @@ pub mod Padding
 pub mod Chain
 pub mod Doubling
 pub mod Laws
+pub mod TraceLaws
 pub mod Examples

@@ -1,5 +1,5 @@
 -- What serves many tags, made once and lent: the cipher's table, and under one key its expanded key and both subkeys, one after the
--- other. Callers know of these only what is named here.
+-- other, with the count of the cipher's calls for these. Callers know of them only what is named here.
 use Prim.Native.Nat.{ℕ}
 use mathlib.Core.Path.{_≡_}
 use mathlib.Core.List.{List, _++_}
@@ -8,6 +8,7 @@ use Rattle.cipher.specs.Cipher.{cipherOf, encryptOf}
 use Rattle.cipher.specs.KeyExpansion.{keyExpansion}
 use Rattle.tables.specs.Tables.{IsRoundTable}
 use Rattle.cmac.specs.Cmac.{subkey1, subkey2, cmacWith}
+use Rattle.cmac.specs.Traced.{subkeysCount}
 use Rattle.cmac.specs.declared.Context.{Context}
 
 -- the table that the cipher's rounds look up
@@ -20,6 +21,7 @@ subkeysOf key = subkey1 (encryptOf key) ++ subkey2 (encryptOf key)
 pub record ContextOf (key : List ℕ) (c : Context) : Type 0 where
   pub schedule : c .schedule ≡ keyExpansion key
   pub subkeys : c .subkeys ≡ subkeysOf key
+  pub counted : c .count ≡ subkeysCount key
 
 -- the tag of m with an expanded key and subkeys, whatever they hold
 unfoldable pub tagUnder : List ℕ → List ℕ → List ℕ → List ℕ

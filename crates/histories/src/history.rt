@@ -40,14 +40,14 @@ fn run_on(depth: u64, card: &mut [u8], old: &mut [u8])
     steps(depth, anchor, left.drawn, card, old);
 }
 
-// Formats the card under a key that is drawn, and prints that as step 0.
+// Formats the card under a key that is drawn, and prints that as step 0. A format has no count.
 fn format(depth: u64, card: &mut [u8]) -> Left {
     let mut key = [0u8; 16];
     let drawn = draw::fill(SEED ^ depth, &mut key);
-    let reply = calls::format(key, depth, card);
-    let answer = reply.answer;
-    let anchor = reply.anchor;
-    let left = turn::untouched(answer, anchor, drawn);
+    let made = calls::format(key, depth, card);
+    let answer = made.answer;
+    let anchor = made.anchor;
+    let left = turn::untouched(answer, 0, anchor, drawn);
     log::depth(depth);
     log::step(0, KINDS, left, card);
     left

@@ -10,8 +10,8 @@ pub fn depth(depth: u64) {
     end();
 }
 
-// The line of a step: its number and kind, the answer's number and node, the root nonce, and the sums of the card, the buffer and the
-// range buffer.
+// The line of a step: its number and kind, the answer's number and node, the count of the cipher's calls, the root nonce, and the sums of
+// the card, the buffer and the range buffer.
 pub fn step(number: u64, kind: u64, left: Left, card: &[u8]) {
     let answer = left.answer;
     let root = left.anchor.root;
@@ -19,6 +19,7 @@ pub fn step(number: u64, kind: u64, left: Left, card: &[u8]) {
     then(kind);
     then(tree::number(answer));
     then(tree::node_of(answer));
+    then(left.count);
     then(root.0);
     then(sum::adler(card));
     then(left.buffer);

@@ -54,7 +54,7 @@ pub fn wipe(mut turn: Turn, depth: u64, card: &mut [u8]) -> Left
     let anchor = turn.anchor;
     let reply = calls::wipe(other(kind, anchor, depth), card);
     let answer = reply.answer;
-    turn::untouched(answer, anchor, p)
+    turn::untouched(answer, reply.count, anchor, p)
 }
 
 // The anchor with a depth past the last, with a root nonce that is no multiple of the depth, or with one after which none are left.

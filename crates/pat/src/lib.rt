@@ -1,6 +1,7 @@
 // The calls for C, as a static library: format, read, write, check, wipe, and the write on an anchor in its place. A slice passes as a
 // pointer and a length. The anchor is 32 bytes: key, depth and root nonce, the numbers in eight bytes each, big-endian; the write in place
-// has it as a struct. The answer is the refusal's number plus 256 times the node, 0 when accepted.
+// has it as a struct. The answer is the refusal's number plus 256 times the node, 0 when accepted. It leaves out how often the
+// cipher was called.
 mod anchor;
 mod code;
 mod in_place;
@@ -48,7 +49,9 @@ pub extern "C" fn pat_read(anchor: &[u8], card: &[u8], index: u64, buffer: &mut 
         return REFUSED_LENGTH;
     }
     let given = anchor::of(anchor);
-    code::of(calls::read(given, card, BlockIndex(index), buffer))
+    let report = calls::read(given, card, BlockIndex(index), buffer);
+    let answer = report.answer;
+    code::of(answer)
 }
 
 // Writes a block, and puts the new root nonce into the anchor.
@@ -87,7 +90,9 @@ pub extern "C" fn pat_check(anchor: &[u8], card: &[u8]) -> u64
         return REFUSED_LENGTH;
     }
     let given = anchor::of(anchor);
-    code::of(calls::check(given, card))
+    let report = calls::check(given, card);
+    let answer = report.answer;
+    code::of(answer)
 }
 
 // Empties the card under the same key, and puts the new root nonce into the anchor.

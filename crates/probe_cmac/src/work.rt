@@ -36,6 +36,6 @@ pub fn tag_chain(key: &[u8], message: &mut [u8], count: u64)
     while i < count {
         i += 1;
         let x = cmac::tag_block(&table, &context.schedule, &context.subkeys, message);
-        words::put_block(message, 0, x);
+        words::put_block(message, 0, x.block);
     }
 }

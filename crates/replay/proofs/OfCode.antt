@@ -4,8 +4,9 @@ use mathlib.Core.List.{List, [], _∷_}
 use Prim.Native.Nat.{ℕ}
 use denote.Ref.{now}
 use Rattle.cmac.specs.Cmac.{cmacOf}
+use Rattle.cmac.specs.Traced.{subkeysCount, cmacCount}
 use Rattle.tree.specs.Layout.{IsCard}
-use Rattle.tree.specs.Calls.{read, write, check, wipe, Gives, outcome, format}
+use Rattle.tree.specs.Calls.{read, write, check, wipe, Outcome, Reports, countOf, outcome, format}
 use Rattle.tree.specs.declared.Anchor.{Anchor}
 use Rattle.tree.specs.declared.Answer.the-variants.{Whole}
 use Rattle.tree.proofs.CallLaws.{outcome-key, format-in}
@@ -30,7 +31,8 @@ pub read-ran : (κs : _) (x : _) (r : _) (e : _) → read-code.Learnt κs x r e
     → Meets (x .0)
     (record {
       step = record { card = now (x .1 .0); call = read (x .1 .1 .0 .0) (now (x .1 .1 .1 .0)) };
-      answer = r;
+      answer = r .answer;
+      count = r .count;
       anchor = x .0;
       card = now (x .1 .0);
       lent = now (e .1 .1 .1 .0);
@@ -42,6 +44,7 @@ pub write-ran : (κs : _) (x : _) (r : _) (e : _) → write-code.Learnt κs x r 
     (record {
       step = record { card = now (x .1 .0); call = write (x .1 .1 .0 .0) (now (x .1 .1 .1 .0)) (now (x .1 .1 .1 .1 .0)) };
       answer = r .answer;
+      count = r .count;
       anchor = r .anchor;
       card = now (e .1 .0);
       lent = now (e .1 .1 .1 .1 .0);
@@ -52,7 +55,8 @@ pub check-ran : (κs : _) (x : _) (r : _) (e : _) → check-code.Learnt κs x r 
     → Meets (x .0)
     (record {
       step = record { card = now (x .1 .0); call = check };
-      answer = r;
+      answer = r .answer;
+      count = r .count;
       anchor = x .0;
       card = now (x .1 .0);
       lent = [];
@@ -64,6 +68,7 @@ pub wipe-ran : (κs : _) (x : _) (r : _) (e : _) → wipe-code.Learnt κs x r e
     (record {
       step = record { card = now (x .1 .0); call = wipe };
       answer = r .answer;
+      count = r .count;
       anchor = r .anchor;
       card = now (e .1 .0);
       lent = [];
@@ -75,12 +80,16 @@ pub runs : (a : Anchor) (xs : List Step) → Runs a xs
 runs a [] = record { calls = []; ran = tt; are = refl }
 runs a (x ∷ xs) =
     let o = outcome (cmacOf (a .key)) a (x .card) (x .call) in
-    let r : Ran = record { step = x; answer = o .answer; anchor = o .anchor; card = o .card; lent = o .lent } in
-    let k = runs (o .anchor) xs in
+    let k = countOf (subkeysCount (a .key)) (cmacCount (a .key)) o in
+    let r : Ran = record { step = x; answer = o .answer; count = k; anchor = o .anchor; card = o .card; lent = o .lent } in
+    let rest = runs (o .anchor) xs in
     record {
-      calls = r ∷ k .calls;
-      ran = (record { answered = refl; anchored = refl; left = refl; filled = refl }, k .ran);
-      are = ap (λ (l : List Step). x ∷ l) (k .are);
+      calls = r ∷ rest .calls;
+      ran = (
+        record { gives = record { answered = refl; anchored = refl; left = refl; filled = refl }; counted = refl },
+        rest .ran,
+      );
+      are = ap (λ (l : List Step). x ∷ l) (rest .are);
     }
 
 -- Each call of a history is a step: what it answered and left is the outcome that the list has at its place.
@@ -88,9 +97,13 @@ module _ (key : List ℕ) where
   abbrev F : List ℕ → List ℕ
   F = cmacOf key
 
-  -- what a call gave back, after the calls before it
+  -- that a call gave back what an outcome says
+  abbrev Told : Outcome → Ran → Type 0
+  Told o r = Reports (subkeysCount key) (cmacCount key) o (r .answer) (r .count) (r .anchor) (r .card) (r .lent)
+
+  -- what it gave back, after the calls before it
   abbrev Tells : State → List Ran → Ran → Type 0
-  Tells s before r = Gives (result F (after F s (steps before) .store) (r .step)) (r .answer) (r .anchor) (r .card) (r .lent)
+  Tells s before r = Told (result F (after F s (steps before) .store) (r .step)) r
 
   follows : (rs : List Ran) (s : State) → s .store .anchor .key ≡ key → History (s .store .anchor) rs → (p : Place rs)
       → Tells s (p .before) (p .item)
@@ -100,12 +113,15 @@ module _ (key : List ℕ) where
       at-places (Tells s) r rs here
       (follows rs (next F s (r .step)) (kept ∙ k) (subst (λ (a : Anchor). History a rs) moved (h .1)))
     where
-      here : Gives (result F (s .store) (r .step)) (r .answer) (r .anchor) (r .card) (r .lent)
+      here : Told (result F (s .store) (r .step)) r
       here =
-          subst (λ (m : List ℕ). Gives (result (cmacOf m) (s .store) (r .step)) (r .answer) (r .anchor) (r .card) (r .lent)) k (h .0)
+          subst
+          (λ (m : List ℕ). Reports (subkeysCount m) (cmacCount m) (result (cmacOf m) (s .store) (r .step))
+          (r .answer) (r .count) (r .anchor) (r .card) (r .lent))
+          k (h .0)
 
       moved : r .anchor ≡ next F s (r .step) .store .anchor
-      moved = here .anchored
+      moved = here .gives .anchored
 
       kept : next F s (r .step) .store .anchor .key ≡ s .store .anchor .key
       kept = outcome-key F (s .store .anchor) (r .step .card) (r .step .call) .0

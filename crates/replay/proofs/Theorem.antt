@@ -29,7 +29,7 @@ use Rattle.replay.proofs.Steady.{safe-steady, steady-after}
 use Rattle.replay.proofs.Agreement.{agreement}
 use Rattle.replay.proofs.Since.{blank-tagged, blank-named, named-blank, Good, good-made, made-empty}
 use Rattle.replay.proofs.Untouched.{quiet, accepts}
-use Rattle.replay.proofs.Unforged.{kept, call-kept, by-calls, checked-here, agrees-here, none-forged, honest-agrees}
+use Rattle.replay.proofs.Unforged.{new-tags, kept, call-kept, by-calls, checked-here, agrees-here, none-forged, honest-agrees}
 
 -- what is good stays so
 demanded : (F : List ℕ → List ℕ) (F16 : (m : List ℕ) → length (F m) ≡ 16) (s : State) → Good F F16 s → (xs : List Step) → Demand3 F s xs
@@ -130,6 +130,7 @@ module _ (F : List ℕ → List ℕ) (F16 : (m : List ℕ) → length (F m) ≡ 
         checked = λ p f u. checked-here F F16 begun good-start p f u;
         agrees = λ p f u. agrees-here F F16 begun good-start p f u;
         unforged = none-forged F F16 xs begun good-start;
+        counted = λ p. new-tags F F16 (known F begun p .store) (p .item);
         agreed = honest-agrees F F16 xs begun good-start;
         wipes = wipes-any xs;
       }

@@ -1,22 +1,24 @@
 -- What is tagged, and that a card which nobody touched shows nothing else.
-use mathlib.Core.Path.{_≡_, refl, sym, ap, subst, _∙_}
+use mathlib.Core.Path.{_≡_, refl, sym, ap, ap₂, subst, _∙_}
 use mathlib.Core.Bool.{true}
-use mathlib.Core.List.{List, [], _∷_, _++_, map, List·Memᴰ, List·Memᴰ·append-cases, Memᴰ·cast, Memᴰ·of-map, Memᴰ·append-left}
-use mathlib.Core.List.{Memᴰ·append-right, List·Memᴰ·not-nil}
+use mathlib.Core.List.{List, [], _∷_, map, List·Memᴰ, List·Memᴰ·append-cases, Memᴰ·cast, Memᴰ·of-map, Memᴰ·append-left}
+use mathlib.Core.List.{Memᴰ·append-right, List·Memᴰ·head, List·Memᴰ·tail, List·Memᴰ·not-nil}
 use mathlib.Core.Logic.{_⊎_, inl, inr, ⊎-elim}
 use Prim.Native.Nat.{ℕ, _+_}
 use native.Mathlib.Omega.{arith}
 use lib.ListN.{length}
 use Rattle.tree.specs.Nodes.{pairs, allNodes}
-use Rattle.tree.specs.Labels.{message, labels}
+use Rattle.tree.specs.Labels.{message, labels, blankLabels, newLabels}
 use Rattle.tree.specs.Card.{blanked, written}
-use Rattle.tree.specs.Calls.{Call, read, write, check, wipe, isWrite, checks, answerOf}
+use Rattle.tree.specs.Calls.{Call, read, write, check, wipe, isWrite, checks, tagged, answerOf, done}
+use Rattle.tree.specs.declared.Anchor.{Anchor}
 use Rattle.tree.specs.declared.Answer.the-variants.{Whole}
-use Rattle.tree.proofs.NodeLaws.{pairs-child, child-node}
-use Rattle.tree.proofs.WriteLaws.{written-message}
-use Rattle.tree.proofs.CallLaws.{accepted, outcome-answer}
+use Rattle.tree.proofs.LimitLaws.{Passes}
+use Rattle.tree.proofs.NodeLaws.{pairs-child, child-node, among-node}
+use Rattle.tree.proofs.WriteLaws.{blanked-message, written-message}
+use Rattle.tree.proofs.CallLaws.{accepted, outcome-answer, outcome-done}
 use Rattle.replay.specs.Places.{Place}
-use Rattle.replay.specs.Run.{Step, State, newTags, result, next, after}
+use Rattle.replay.specs.Run.{Step, Store, State, newTags, result, next, after}
 use Rattle.replay.specs.Claim
 use Rattle.replay.specs.Claim.{Untouched, ChecksTagged, AgreesHere, WroteUntouched, AcceptedWipe, known, Agreement, Forgery, Faithful}
 use Rattle.replay.specs.Tagged.{CallTags, Honest, ByCall, GoesOn}
@@ -73,6 +75,36 @@ module _ (F : List ℕ → List ℕ) (F16 : (m : List ℕ) → length (F m) ≡ 
       (child-named F F16 (a .depth) (a .root .0) card i block (ok .sound .deep) (ok .sound .full) (ok .inside) (ok .long) (s .tagged)
       (k .node)
       (record { level = k .level; high = k .high; is = k .child })))
+
+  -- the messages on the card that it left are those of the labels that it put there
+  messages-same : (f g : ℕ → List ℕ) (us : List ℕ) → ((u : ℕ) → List·Memᴰ u us → f u ≡ g u) → map f us ≡ map g us
+  messages-same f g [] h = refl
+  messages-same f g (u ∷ us) h =
+      ap₂ (λ (m : List ℕ) (l : List (List ℕ)). m ∷ l) (h u (List·Memᴰ·head refl)) (messages-same f g us (λ v k. h v (List·Memᴰ·tail k)))
+
+  done-tags : (a : Anchor) (card : List ℕ) (c : Call) → Passes a card c → newTags c (done F a card c) ≡ tagged a card c
+  done-tags a card (read i buffer) p = refl
+  done-tags a card check p = refl
+  done-tags a card (write i block ranges) p =
+      let n = a .depth in
+      let t = a .root .0 in
+      messages-same (message (labels n (t + n) (written F n t t card i block)))
+      (message (newLabels n t i block (labels n t card))) (pairs n i)
+      (λ u m.
+      written-message F F16 n (p .sound .deep) t t card i block (p .sound .full) (p .inside) (p .long) u
+      (child-node n i (p .inside) u (pairs-child n i (p .inside) u m)))
+  done-tags a card wipe p =
+      let n = a .depth in
+      let t = a .root .0 + a .depth in
+      messages-same (message (labels n t (blanked F n t card))) (message (blankLabels n t)) (allNodes n)
+      (λ u m. blanked-message F F16 n (p .sound .deep) t card (p .sound .full) u (among-node n u m))
+
+  pub new-tags : (s : Store) (x : Step) → result F s x .answer ≡ Whole
+      → newTags (x .call) (result F s x) ≡ tagged (s .anchor) (x .card) (x .call)
+  new-tags s x w =
+      let e = sym (outcome-answer F (s .anchor) (x .card) (x .call)) ∙ w in
+      ap (newTags (x .call)) (outcome-done F (s .anchor) (x .card) (x .call) e)
+      ∙ done-tags (s .anchor) (x .card) (x .call) (accepted F (s .anchor) (x .card) (x .call) e .limits-passed)
 
   -- what an accepted call tags is tagged from there on
   pub call-kept : (s : State) {xs : List Step} (m : List ℕ) → ByCall F s xs m → List·Memᴰ m (after F s xs .tagged)

@@ -2,10 +2,10 @@
 use Prim.Native.Nat.{ℕ, _+_, _^_}
 use mathlib.Core.Bool.{cond, _&&_}
 use mathlib.Core.List.{List, [], _∷_, _++_, map}
-use Rattle.tree.specs.Nodes.{pairs, allNodes}
+use Rattle.tree.specs.Nodes.{allNodes}
 use Rattle.tree.specs.Labels.{message, labels}
 use Rattle.tree.specs.Answer.{isWhole}
-use Rattle.tree.specs.Calls.{Call, read, write, check, wipe, renews, Outcome, outcome, format}
+use Rattle.tree.specs.Calls.{Call, read, write, check, wipe, renews, tags, Outcome, outcome, format}
 use Rattle.tree.specs.declared.Anchor.{Anchor}
 use Rattle.replay.specs.Array
 use Rattle.replay.specs.Array.{Told, Array, zeroed, moved}
@@ -21,13 +21,6 @@ told (read i buffer) = Array.read i
 told (write i block ranges) = Array.write i block
 told check = Array.check
 told wipe = Array.wipe
-
--- the nodes that an accepted call tags
-abbrev pub tags : ℕ → Call → List ℕ
-tags n (read i buffer) = []
-tags n (write i block ranges) = pairs n i
-tags n check = []
-tags n wipe = allNodes n
 
 -- the messages of nodes, built from a card and an anchor
 abbrev pub messages : Anchor → List ℕ → List ℕ → List (List ℕ)

@@ -8,12 +8,12 @@ use lib.ListN.{length}
 use Rattle.tree.specs.Layout.{IsNode, cardLength}
 use Rattle.tree.specs.Nodes.{pathNode}
 use Rattle.tree.specs.Labels.{message, labels, blankLabels, newLabels}
-use Rattle.tree.specs.Calls.{Call, read, write, check, wipe, isWrite}
+use Rattle.tree.specs.Calls.{Call, read, write, check, wipe, isWrite, tagged}
 use Rattle.tree.specs.declared.Anchor.{Anchor}
 use Rattle.tree.specs.declared.Answer.the-variants.{Whole}
 use Rattle.replay.specs.Places.{Place}
 use Rattle.replay.specs.Array.{zeroed}
-use Rattle.replay.specs.Run.{Step, State, result, next, after}
+use Rattle.replay.specs.Run.{Step, State, newTags, result, next, after}
 use Rattle.replay.specs.Claim.{Untouched, ChecksTagged, Accepted, AgreesHere, known, Everywhere, Agreement, Forgery, Faithful}
 use Rattle.replay.specs.Claim.{Demand3}
 
@@ -55,6 +55,10 @@ module _ (F : List ℕ → List ℕ) (s₀ : State) where
     pub format-tagged : (m : List ℕ) → BlankTags n 0 m → List·Memᴰ m (after F s₀ xs .tagged)
     pub call-tagged : (m : List ℕ) → ByCall xs m → List·Memᴰ m (after F s₀ xs .tagged)
     pub nothing-else : (m : List ℕ) → List·Memᴰ m (after F s₀ xs .tagged) → BlankTags n 0 m ⊎ ByCall xs m
+    -- what an accepted call tags is what its outcome counts as new tags, in that order
+    pub counted : (p : Place xs) → Accepted F (known F s₀ p .store) (p .item)
+        → newTags (p .item .call) (result F (known F s₀ p .store) (p .item))
+        ≡ tagged (known F s₀ p .store .anchor) (p .item .card) (p .item .call)
     -- where every accepted write since the last accepted wipe before a call had an untouched card, and so has the call, it checks tagged
     -- messages alone, and agrees, whatever was forged before that wipe
     pub checked : (p : Place xs) → Faithful F s₀ (p .before) → Untouched (known F s₀ p .store) (p .item)

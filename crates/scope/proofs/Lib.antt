@@ -2,3 +2,4 @@ pub mod Table
 pub mod Rules
 pub mod ReadRule
 pub mod WipeRule
+pub mod CountRule

@@ -1,2 +1,2 @@
-// Document 01's table, its rules, when a read is accepted and what a wipe does are specifications and proofs alone: this crate runs
-// nothing.
+// Document 01's table, its rules, when a read is accepted, what a wipe does and what calls count are specifications and proofs alone: this
+// crate runs nothing.

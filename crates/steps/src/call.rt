@@ -12,9 +12,11 @@ pub fn read(turn: Turn, card: &[u8], lent: usize) -> Left
     let anchor = turn.anchor;
     let index = turn.block;
     let mut buffer = [turn::BUFFER; 64];
-    let answer = calls::read(anchor, card, index, &mut buffer[0..lent]);
+    let report = calls::read(anchor, card, index, &mut buffer[0..lent]);
+    let answer = report.answer;
     Left {
         answer: answer,
+        count: report.count,
         anchor: anchor,
         drawn: turn.drawn,
         buffer: turn::buffer_sum(&buffer),
@@ -36,6 +38,7 @@ pub fn write(turn: Turn, card: &mut [u8], lent: usize) -> Left
     let anchor = reply.anchor;
     Left {
         answer: answer,
+        count: reply.count,
         anchor: anchor,
         drawn: drawn,
         buffer: turn::no_buffer(),
@@ -46,7 +49,9 @@ pub fn write(turn: Turn, card: &mut [u8], lent: usize) -> Left
 // Checks the card.
 pub fn check(turn: Turn, card: &[u8]) -> Left {
     let anchor = turn.anchor;
-    turn::untouched(calls::check(anchor, card), anchor, turn.drawn)
+    let report = calls::check(anchor, card);
+    let answer = report.answer;
+    turn::untouched(answer, report.count, anchor, turn.drawn)
 }
 
 // Wipes the card.
@@ -55,5 +60,5 @@ pub fn wipe(turn: Turn, card: &mut [u8]) -> Left {
     let reply = calls::wipe(before, card);
     let answer = reply.answer;
     let anchor = reply.anchor;
-    turn::untouched(answer, anchor, turn.drawn)
+    turn::untouched(answer, reply.count, anchor, turn.drawn)
 }

@@ -16,9 +16,10 @@ pub struct Turn {
     pub drawn: u64,
 }
 
-// The answer, the anchor, the number drawn last, and the sums of the buffer and of the range buffer.
+// The answer with its count, the anchor, the number drawn last, and the sums of the buffer and of the range buffer.
 pub struct Left {
     pub answer: Answer,
+    pub count: u64,
     pub anchor: Anchor,
     pub drawn: u64,
     pub buffer: u64,
@@ -26,9 +27,10 @@ pub struct Left {
 }
 
 // What a call leaves that touches no buffer.
-pub fn untouched(answer: Answer, anchor: Anchor, drawn: u64) -> Left {
+pub fn untouched(answer: Answer, count: u64, anchor: Anchor, drawn: u64) -> Left {
     Left {
         answer: answer,
+        count: count,
         anchor: anchor,
         drawn: drawn,
         buffer: no_buffer(),

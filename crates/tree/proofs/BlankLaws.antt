@@ -13,9 +13,9 @@ use Rattle.words.proofs.Cases.{below-or-not}
 use Rattle.tree.specs.Layout.{IsNode, size, offset, cardLength}
 use Rattle.tree.specs.Nodes.{upTo, allNodes}
 use Rattle.tree.specs.Labels.{Labels, message, blankLabels}
-use Rattle.tree.specs.Card.{stamped, blanked, firstWrong}
+use Rattle.tree.specs.Card.{stamped, blanked, firstWrong, checked}
 use Rattle.tree.specs.Limits.{depthLimit, cardLimit, firstFailing}
-use Rattle.tree.specs.Calls.{wipe, firstLimits, ownLimits, limits, checks, verdict, rooted, answerOf, outcome}
+use Rattle.tree.specs.Calls.{wipe, firstLimits, ownLimits, limits, checks, tagged, verdict, rooted, answerOf, outcome}
 use Rattle.tree.specs.Calls.{formatAnswer, formatCard, format}
 use Rattle.tree.specs.Blind.{Blind, BlindFormat}
 use Rattle.tree.specs.declared.Anchor.{Anchor}
@@ -111,6 +111,7 @@ module _ (F : List ℕ → List ℕ) (F16 : (m : List ℕ) → length (F m) ≡ 
       limited c ∙ ap (λ (l : ℕ). verdict (firstFailing (firstLimits a l ++ ownLimits a wipe)) none) e ∙ sym (limited d)
 
   made : (c d : List ℕ) → length c ≡ length d → outcome F a c wipe .answer ≡ Whole → outcome F a c wipe ≡ outcome F a d wipe
+  unfolding checks checked
   made c d e w =
       let n = a .depth in
       let t = a .root .0 + a .depth in
@@ -118,7 +119,7 @@ module _ (F : List ℕ → List ℕ) (F16 : (m : List ℕ) → length (F m) ≡ 
       let q = sym (outcome-answer F a d wipe) ∙ sym (answered c d e) ∙ w in
       let ok = accepted F a c wipe p .limits-passed .sound in
       outcome-done F a c wipe p
-      ∙ ap (λ (card : List ℕ). record { answer = Whole; anchor = rooted a t; card = card; lent = [] })
+      ∙ ap (λ (card : List ℕ). record { answer = Whole; anchor = rooted a t; card = card; lent = []; counted = tagged a card wipe })
       (blanked-same F F16 n (ok .deep) t c d (ok .full) (sym e ∙ ok .full))
       ∙ sym (outcome-done F a d wipe q)
 
@@ -138,7 +139,7 @@ module _ (F : List ℕ → List ℕ) (F16 : (m : List ℕ) → length (F m) ≡ 
       let ok = format-in n c w in
       let v : formatAnswer n d ≡ Whole = sym (format-answered c d e) ∙ w in
       let a : Anchor = record { key = key; depth = n; root = record { 0 = 0 } } in
-      ap₂ (λ (x : Answer) (card : List ℕ). record { answer = x; anchor = a; card = card; lent = [] })
+      ap₂ (λ (x : Answer) (card : List ℕ). record { answer = x; anchor = a; card = card; lent = []; counted = [] })
       (format-answered c d e)
       (ap (λ (x : Answer). formatCard F x n c) w ∙ blanked-same F F16 n (ok .deep) 0 c d (ok .full) (sym e ∙ ok .full)
       ∙ sym (ap (λ (x : Answer). formatCard F x n d) v))

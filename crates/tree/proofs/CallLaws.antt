@@ -28,10 +28,10 @@ use Rattle.tree.proofs.LimitLaws.{no-limits, passes, pass, is-equal, eq
 -- Tags
 
 module _ (F : List ℕ → List ℕ) (n t : ℕ) (card : List ℕ) where
-  right-is : (u : ℕ) → right F n t card u ≡ true → Right F n t card u
+  pub right-is : (u : ℕ) → right F n t card u ≡ true → Right F n t card u
   right-is u e = same-is (F (message (labels n t card) u)) (tag n card u) e
 
-  is-right : (u : ℕ) → Right F n t card u → right F n t card u ≡ true
+  pub is-right : (u : ℕ) → Right F n t card u → right F n t card u ≡ true
   is-right u e = ap (same (F (message (labels n t card) u))) (sym e) ∙ same-refl (F (message (labels n t card) u))
 
   pub none-wrong : (us : List ℕ) → firstWrong F n t card us ≡ none → (u : ℕ) → List·Memᴰ u us → Right F n t card u
@@ -92,9 +92,9 @@ verdict-whole (some r) w e = let z : _≡_ {A = ℕ} 0 1 = cc in absurd (omega a
 verdict-whole none (some u) e = let z : _≡_ {A = ℕ} 0 1 = cc in absurd (omega arith)
 verdict-whole none none e = (refl, refl)
 
-pub verdict-wrong : (r : Option Refusal) (w : Option ℕ) (u : Node) → verdict r w ≡ Wrong u → (r ≡ none) × (w ≡ none → ⊥)
+pub verdict-wrong : (r : Option Refusal) (w : Option ℕ) (u : Node) → verdict r w ≡ Wrong u → (r ≡ none) × (w ≡ some (u .0))
 verdict-wrong (some r) w u e = let z : _≡_ {A = ℕ} 0 1 = cc in absurd (omega arith)
-verdict-wrong none (some v) u e = (refl, λ p. let z : _≡_ {A = ℕ} 0 1 = cc in omega arith)
+verdict-wrong none (some v) u e = (refl, cc)
 verdict-wrong none none u e = let z : _≡_ {A = ℕ} 0 1 = cc in absurd (omega arith)
 
 module _ (F : List ℕ → List ℕ) (a : Anchor) (card : List ℕ) (c : Call) where
@@ -121,7 +121,10 @@ module _ (F : List ℕ → List ℕ) (a : Anchor) (card : List ℕ) (c : Call) w
   unfolding answerOf
   never-wrong f u e =
       let v = verdict-wrong _ _ u e in
-      v .1 (wrong-none F (a .depth) (a .root .0) card (checks (a .depth) c) (f (passed a card c (v .0))))
+      let w = wrong-none F (a .depth) (a .root .0) card (checks (a .depth) c) (f (passed a card c (v .0))) in
+      let z : _≡_ {A = Option ℕ} none (some (u .0)) = sym w ∙ v .1 in
+      let k : _≡_ {A = ℕ} 0 1 = cc in
+      absurd (omega arith)
 
 -- A wipe checks no tag: within its limits it is accepted, whatever the card.
 pub wipe-accepts : (F : List ℕ → List ℕ) (a : Anchor) (card : List ℕ) → Passes a card wipe → answerOf F a card wipe ≡ Whole
@@ -172,6 +175,11 @@ module _ (F : List ℕ → List ℕ) (a : Anchor) (card : List ℕ) where
   pub outcome-done : (c : Call) → answerOf F a card c ≡ Whole → outcome F a card c ≡ done F a card c
   unfolding outcome
   outcome-done c e = ap (λ (o : Answer). settled F o a card c) e
+
+  -- by the answer
+  pub outcome-is : (c : Call) (o : Answer) → outcome F a card c .answer ≡ o → outcome F a card c ≡ settled F o a card c
+  unfolding outcome
+  outcome-is c o e = ap (λ (x : Answer). settled F x a card c) (sym (settled-answer c (answerOf F a card c)) ∙ e)
 
   settled-key : (c : Call) (o : Answer) → (settled F o a card c .anchor .key ≡ a .key) × (settled F o a card c .anchor .depth ≡ a .depth)
   settled-key (read i buffer) Whole = (refl, refl)

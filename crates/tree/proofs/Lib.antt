@@ -9,3 +9,6 @@ pub mod LimitLaws
 pub mod CallLaws
 pub mod AnswerLaws
 pub mod BlankLaws
+pub mod CountLaws
+pub mod CostLaws
+pub mod EnoughLaws

@@ -1,13 +1,15 @@
--- What the calls do, on every input: the answer, the anchor, the card and the lent buffer as they leave it.
+-- What the calls do, on every input: the answer, the anchor, the card and the lent buffer as they leave it, and how often they call the
+-- cipher.
 use Prim.Native.Nat.{ℕ, _+_, _*_, _^_}
 use mathlib.Core.Path.{_≡_}
 use mathlib.Core.Bool.{Bool, true, false}
-use mathlib.Core.List.{List, [], _∷_, _++_}
+use mathlib.Core.List.{List, [], _∷_, _++_, map}
 use mathlib.Core.Option.{Option, none, some}
 use lib.ListN.{length, drop}
 use Rattle.tree.specs.Layout.{label}
-use Rattle.tree.specs.Nodes.{path, pairsButLeaf, allNodes}
-use Rattle.tree.specs.Card.{blanked, written, firstWrong}
+use Rattle.tree.specs.Nodes.{path, pairs, pairsButLeaf, allNodes}
+use Rattle.tree.specs.Labels.{message, labels, blankLabels, newLabels}
+use Rattle.tree.specs.Card.{blanked, written, firstWrong, checked}
 use Rattle.tree.specs.Ranges.{rangesOf, encode}
 use Rattle.tree.specs.Limits.{Limit, depthLimit, nonceLimit, cardLimit, blockLimit, lengthLimit, rangeLimit, spentLimit, firstFailing}
 use Rattle.tree.specs.declared.Anchor.{Anchor}
@@ -66,6 +68,25 @@ checks n (write i block ranges) = pairsButLeaf n i
 checks n check = allNodes n
 checks n wipe = []
 
+-- the nodes that an accepted call tags
+abbrev pub tags : ℕ → Call → List ℕ
+tags n (read i buffer) = []
+tags n (write i block ranges) = pairs n i
+tags n check = []
+tags n wipe = allNodes n
+
+-- the messages that it tags: on the labels that it puts on the card
+abbrev pub tagged : Anchor → List ℕ → Call → List (List ℕ)
+tagged a card (read i buffer) = []
+tagged a card (write i block ranges) =
+    let n = a .depth in
+    let t = a .root .0 in
+    map (message (newLabels n t i block (labels n t card))) (tags n (write i block ranges))
+tagged a card check = []
+tagged a card wipe =
+    let n = a .depth in
+    map (message (blankLabels n (a .root .0 + n))) (tags n wipe)
+
 -- the first limit that fails; else the first wrong node; else whole
 abbrev pub verdict : Option Refusal → Option ℕ → Answer
 verdict (some r) w = Refused r
@@ -81,13 +102,36 @@ pub record Outcome : Type 0 where
   pub anchor : Anchor
   pub card : List ℕ
   pub lent : List ℕ
+  -- the messages whose tags the call makes and counts, in order; format counts none
+  pub counted : List (List ℕ)
 
--- That a call answered, and left the anchor, the card and the lent buffer, as an outcome says. Contracts are this record.
+-- That a call answered, and left the anchor, the card and the lent buffer, as an outcome says. Format's contract is this record.
 pub record Gives (o : Outcome) (answer : Answer) (anchor : Anchor) (card lent : List ℕ) : Type 0 where
   pub answered : answer ≡ o .answer
   pub anchored : anchor ≡ o .anchor
   pub left : card ≡ o .card
   pub filled : lent ≡ o .lent
+
+-- what the items of a list take together, where `each` tells what one takes
+unfoldable pub total : {A : Type 0} → (A → ℕ) → List A → ℕ
+total each [] = 0
+total each (x ∷ xs) = each x + total each xs
+
+-- How many times a call goes through the cipher (document 02: the count): not once where a limit refuses it; else as often as the subkeys
+-- take, which are made once, and as each message takes.
+abbrev pub countIn : ℕ → (List ℕ → ℕ) → Answer → List (List ℕ) → ℕ
+countIn subkeys each Whole ms = subkeys + total each ms
+countIn subkeys each (Wrong u) ms = subkeys + total each ms
+countIn subkeys each (Refused r) ms = 0
+
+abbrev pub countOf : ℕ → (List ℕ → ℕ) → Outcome → ℕ
+countOf subkeys each o = countIn subkeys each (o .answer) (o .counted)
+
+-- That a call gave what an outcome says, and told its count. The contracts of the calls after format are this record.
+pub record Reports (subkeys : ℕ) (each : List ℕ → ℕ) (o : Outcome) (answer : Answer) (count : ℕ) (anchor : Anchor) (card lent : List ℕ)
+    : Type 0 where
+  pub gives : Gives o answer anchor card lent
+  pub counted : count ≡ countOf subkeys each o
 
 -- the anchor with another root nonce
 abbrev pub rooted : Anchor → ℕ → Anchor
@@ -97,27 +141,48 @@ module _ (F : List ℕ → List ℕ) where
   unfoldable pub answerOf : Anchor → List ℕ → Call → Answer
   answerOf a card c = verdict (firstFailing (limits a card c)) (firstWrong F (a .depth) (a .root .0) card (checks (a .depth) c))
 
+  -- the messages that a call checks, up to and including the first whose tag is wrong
+  abbrev pub checkedBy : Anchor → List ℕ → Call → List (List ℕ)
+  checkedBy a card c = checked F (a .depth) (a .root .0) card (checks (a .depth) c)
+
+  -- those that an accepted call makes tags of: to compare, and then to put
+  abbrev pub madeBy : Anchor → List ℕ → Call → List (List ℕ)
+  madeBy a card c = checkedBy a card c ++ tagged a card c
+
   -- what an accepted call does
   abbrev pub done : Anchor → List ℕ → Call → Outcome
   done a card (read i buffer) =
-      record { answer = Whole; anchor = a; card = card; lent = label (a .depth) card (2 ^ a .depth + i) }
+      record {
+        answer = Whole;
+        anchor = a;
+        card = card;
+        lent = label (a .depth) card (2 ^ a .depth + i);
+        counted = madeBy a card (read i buffer);
+      }
   done a card (write i block ranges) =
       record {
         answer = Whole;
         anchor = rooted a (a .root .0 + a .depth);
         card = written F (a .depth) (a .root .0) (a .root .0) card i block;
         lent = encode (rangesOf (a .depth) i) ++ drop (16 * a .depth) ranges;
+        counted = madeBy a card (write i block ranges);
       }
-  done a card check = record { answer = Whole; anchor = a; card = card; lent = [] }
+  done a card check = record { answer = Whole; anchor = a; card = card; lent = []; counted = madeBy a card check }
   done a card wipe =
       let t = a .root .0 + a .depth in
-      record { answer = Whole; anchor = rooted a t; card = blanked F (a .depth) t card; lent = [] }
+      record {
+        answer = Whole;
+        anchor = rooted a t;
+        card = blanked F (a .depth) t card;
+        lent = [];
+        counted = madeBy a card wipe;
+      }
 
   -- a refused call answers why and leaves everything as it was
   abbrev pub settled : Answer → Anchor → List ℕ → Call → Outcome
   settled Whole a card c = done a card c
-  settled (Wrong u) a card c = record { answer = Wrong u; anchor = a; card = card; lent = lentTo c }
-  settled (Refused r) a card c = record { answer = Refused r; anchor = a; card = card; lent = lentTo c }
+  settled (Wrong u) a card c = record { answer = Wrong u; anchor = a; card = card; lent = lentTo c; counted = checkedBy a card c }
+  settled (Refused r) a card c = record { answer = Refused r; anchor = a; card = card; lent = lentTo c; counted = [] }
 
   unfoldable pub outcome : Anchor → List ℕ → Call → Outcome
   outcome a card c = settled (answerOf a card c) a card c
@@ -135,4 +200,5 @@ module _ (F : List ℕ → List ℕ) where
         anchor = record { key = key; depth = n; root = record { 0 = 0 } };
         card = formatCard (formatAnswer n card) n card;
         lent = [];
+        counted = [];
       }

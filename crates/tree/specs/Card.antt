@@ -35,3 +35,8 @@ module _ (F : List ℕ → List ℕ) where
   unfoldable pub firstWrong : ℕ → ℕ → List ℕ → List ℕ → Option ℕ
   firstWrong n t card [] = none
   firstWrong n t card (u ∷ us) = cond (right n t card u) (firstWrong n t card us) (some u)
+
+  -- the messages that are checked until it is found: its own is the last of them
+  unfoldable pub checked : ℕ → ℕ → List ℕ → List ℕ → List (List ℕ)
+  checked n t card [] = []
+  checked n t card (u ∷ us) = message (labels n t card) u ∷ cond (right n t card u) (checked n t card us) []

@@ -45,6 +45,19 @@ pub enum Answer {
     Refused(Refusal),
 }
 
+// What a call gives back that leaves the anchor as it was: the answer, and how many times it went through the cipher.
+pub struct Report {
+    pub answer: Answer,
+    pub count: u64,
+}
+
+// The same of a call that moves the anchor: it has the anchor as it is then.
+pub struct Reply {
+    pub answer: Answer,
+    pub anchor: Anchor,
+    pub count: u64,
+}
+
 // The papers' number of an answer, 0 when accepted.
 pub fn number(answer: Answer) -> u64
     ensures { λ r. ⌜ r ≡ numberOf answer ⌝ }

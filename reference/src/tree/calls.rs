@@ -1,21 +1,43 @@
 //! "Calls": format, read, write and check, and the wipe of request T-01. Each tests first, so that a refused call has changed
-//! nothing.
+//! nothing; all but format count the blocks that AES encrypts for them, which a limit keeps at none.
 
-use super::words::{Anchor, Answer, BlockIndex, Node, Refusal};
+use super::words::{Anchor, Answer, BlockIndex, Counted, Node, Refusal};
 use super::{layout, limits, messages, paths, ranges};
+use crate::cmac::Cmac;
 
 /// Test 8: each of the nodes has its right tag; a refusal names the first that has not.
 fn all_right(
+    cmac: &Cmac,
     anchor: &Anchor,
     card: &[u8],
     nodes: impl IntoIterator<Item = Node>,
 ) -> Result<(), Refusal> {
     for node in nodes {
-        if !messages::is_right(anchor, card, node) {
+        if !messages::is_right(cmac, anchor, card, node) {
             return Err(Refusal::Wrong(node));
         }
     }
     Ok(())
+}
+
+/// A call after its limits: the refusal, or the work under the key, whose subkeys are made once.
+fn counted<T>(
+    limits: Result<T, Refusal>,
+    key: &[u8; 16],
+    work: impl FnOnce(&Cmac, T) -> Result<Anchor, Refusal>,
+) -> Counted {
+    match limits {
+        Ok(passed) => {
+            let cmac = Cmac::new(key);
+            let answer = work(&cmac, passed).into();
+            let count = cmac.encrypted();
+            Counted { answer, count }
+        }
+        Err(refusal) => Counted {
+            answer: Answer::Refused(refusal),
+            count: 0,
+        },
+    }
 }
 
 /// Format: zeroes every block and inner nonce and gives every node its tag under the root nonce 0.
@@ -28,12 +50,12 @@ pub fn format(key: &[u8; 16], depth: u64, card: &mut [u8]) -> Answer {
         depth,
         root: 0,
     };
-    empty(&anchor, card);
+    empty(&Cmac::new(key), &anchor, card);
     Answer::Accepted(anchor)
 }
 
 /// Zeroes every block, gives every inner node the root's nonce, and then every node its tag.
-fn empty(anchor: &Anchor, card: &mut [u8]) {
+fn empty(cmac: &Cmac, anchor: &Anchor, card: &mut [u8]) {
     let depth = anchor.depth;
     for node in layout::nodes(depth) {
         let label = &mut card[layout::label(depth, node)];
@@ -44,30 +66,20 @@ fn empty(anchor: &Anchor, card: &mut [u8]) {
         }
     }
     for node in layout::nodes(depth) {
-        messages::put_tag(anchor, card, node);
+        messages::put_tag(cmac, anchor, card, node);
     }
 }
 
 /// Read: the buffer gets the block if every tag on its path is right.
-pub fn read(anchor: &Anchor, card: &[u8], index: u64, buffer: &mut [u8]) -> Answer {
-    let tested = test_read(anchor, card, index, buffer).map(|index| {
-        let leaf = layout::leaf(anchor.depth, index);
-        buffer.copy_from_slice(&card[layout::label(anchor.depth, leaf)]);
-        *anchor
-    });
-    tested.into()
-}
-
-/// The limits of a read, then its path.
-fn test_read(
-    anchor: &Anchor,
-    card: &[u8],
-    index: u64,
-    buffer: &[u8],
-) -> Result<BlockIndex, Refusal> {
-    let index = limits::read(anchor, card, index, buffer)?;
-    all_right(anchor, card, paths::read_checks(anchor.depth, index))?;
-    Ok(index)
+pub fn read(anchor: &Anchor, card: &[u8], index: u64, buffer: &mut [u8]) -> Counted {
+    let limits = limits::read(anchor, card, index, buffer);
+    counted(limits, &anchor.key, |cmac, index| {
+        let depth = anchor.depth;
+        all_right(cmac, anchor, card, paths::read_checks(depth, index))?;
+        let leaf = layout::leaf(depth, index);
+        buffer.copy_from_slice(&card[layout::label(depth, leaf)]);
+        Ok(*anchor)
+    })
 }
 
 /// Write: the block goes to the card, the path gets new nonces, path and siblings new tags, and the range buffer what changed.
@@ -77,31 +89,26 @@ pub fn write(
     index: u64,
     block: &[u8],
     buffer: &mut [u8],
-) -> Answer {
-    let tested = test_write(anchor, card, index, block, buffer).map(|index| {
-        let after = write_card(anchor, card, index, block);
-        let changed = ranges::encode(&ranges::changed(anchor.depth, index));
+) -> Counted {
+    let limits = limits::write(anchor, card, index, block, buffer);
+    counted(limits, &anchor.key, |cmac, index| {
+        let depth = anchor.depth;
+        all_right(cmac, anchor, card, paths::write_checks(depth, index))?;
+        let after = write_card(cmac, anchor, card, index, block);
+        let changed = ranges::encode(&ranges::changed(depth, index));
         buffer[..changed.len()].copy_from_slice(&changed);
-        after
-    });
-    tested.into()
-}
-
-/// The limits of a write, then its path and siblings.
-fn test_write(
-    anchor: &Anchor,
-    card: &[u8],
-    index: u64,
-    block: &[u8],
-    buffer: &[u8],
-) -> Result<BlockIndex, Refusal> {
-    let index = limits::write(anchor, card, index, block, buffer)?;
-    all_right(anchor, card, paths::write_checks(anchor.depth, index))?;
-    Ok(index)
+        Ok(after)
+    })
 }
 
 /// What an accepted write does to the card; gives the new anchor.
-fn write_card(anchor: &Anchor, card: &mut [u8], index: BlockIndex, block: &[u8]) -> Anchor {
+fn write_card(
+    cmac: &Cmac,
+    anchor: &Anchor,
+    card: &mut [u8],
+    index: BlockIndex,
+    block: &[u8],
+) -> Anchor {
     let depth = anchor.depth;
     let path = paths::path(depth, index);
     for y in 1..depth {
@@ -115,29 +122,30 @@ fn write_card(anchor: &Anchor, card: &mut [u8], index: BlockIndex, block: &[u8])
         ..*anchor
     };
     for &node in &path[1..] {
-        messages::put_tag(&after, card, node);
-        messages::put_tag(&after, card, node.sibling());
+        messages::put_tag(cmac, &after, card, node);
+        messages::put_tag(cmac, &after, card, node.sibling());
     }
     after
 }
 
 /// Wipe: an empty card under the same key, whose nonces are all the next root nonce. No tag on the card is looked at.
-pub fn wipe(anchor: &Anchor, card: &mut [u8]) -> Answer {
-    let tested = limits::wipe(anchor, card).map(|()| {
+pub fn wipe(anchor: &Anchor, card: &mut [u8]) -> Counted {
+    let limits = limits::wipe(anchor, card);
+    counted(limits, &anchor.key, |cmac, ()| {
         let after = Anchor {
             root: anchor.root + anchor.depth,
             ..*anchor
         };
-        empty(&after, card);
-        after
-    });
-    tested.into()
+        empty(cmac, &after, card);
+        Ok(after)
+    })
 }
 
 /// Check: every tag on the card, from node 2 upwards.
-pub fn check(anchor: &Anchor, card: &[u8]) -> Answer {
-    let tested = limits::check(anchor, card)
-        .and_then(|()| all_right(anchor, card, layout::nodes(anchor.depth)))
-        .map(|()| *anchor);
-    tested.into()
+pub fn check(anchor: &Anchor, card: &[u8]) -> Counted {
+    let limits = limits::check(anchor, card);
+    counted(limits, &anchor.key, |cmac, ()| {
+        all_right(cmac, anchor, card, layout::nodes(anchor.depth))?;
+        Ok(*anchor)
+    })
 }

@@ -20,7 +20,7 @@ fn used() -> (Anchor, Vec<u8>) {
 
 /// Writes a block; no answer but the new anchor will do.
 fn written(anchor: &Anchor, card: &mut [u8], index: u64, block: [u8; 64]) -> Anchor {
-    match write(anchor, card, index, &block, &mut [0; 48]) {
+    match write(anchor, card, index, &block, &mut [0; 48]).answer {
         Answer::Accepted(after) => after,
         refused => panic!("write: {refused:?}"),
     }
@@ -29,8 +29,8 @@ fn written(anchor: &Anchor, card: &mut [u8], index: u64, block: [u8; 64]) -> Anc
 /// Reads a block; no answer but its bytes will do.
 fn block(anchor: &Anchor, card: &[u8], index: u64) -> [u8; 64] {
     let mut buffer = [0; 64];
-    let answer = read(anchor, card, index, &mut buffer);
-    assert_eq!(answer, Answer::Accepted(*anchor));
+    let read = read(anchor, card, index, &mut buffer);
+    assert_eq!(read.answer, Answer::Accepted(*anchor));
     buffer
 }
 
@@ -42,8 +42,8 @@ fn planted_sibling() {
     card[layout::label(DEPTH, sibling)].fill(0x66);
     let before = card.clone();
     let mut buffer = [0x99; 48];
-    let answer = write(&anchor, &mut card, 5, &[9; 64], &mut buffer);
-    assert_eq!(answer, Answer::Refused(Refusal::Wrong(sibling)));
+    let written = write(&anchor, &mut card, 5, &[9; 64], &mut buffer);
+    assert_eq!(written.answer, Answer::Refused(Refusal::Wrong(sibling)));
     assert_eq!((card, buffer), (before, [0x99; 48]));
 }
 
@@ -60,7 +60,7 @@ fn sibling_keeps_its_nonce() {
     for (index, byte) in (0..).zip(bytes) {
         assert_eq!(block(&after, &card, index), [byte; 64]);
     }
-    assert_eq!(check(&after, &card), Answer::Accepted(after));
+    assert_eq!(check(&after, &card).answer, Answer::Accepted(after));
 }
 
 /// A tag is made with the parent's new nonce: node 3's with T = 12, node 6's with 11, the leaves' with 10.
@@ -90,7 +90,7 @@ fn equal_block() {
     let before = card.clone();
     let after = written(&anchor, &mut card, 5, [3; 64]);
     assert_eq!(after.root, anchor.root + DEPTH);
-    assert_eq!(read(&after, &before, 5, &mut [0; 64]).number(), 8);
+    assert_eq!(read(&after, &before, 5, &mut [0; 64]).answer.number(), 8);
     assert_eq!(block(&after, &card, 5), [3; 64]);
 }
 
@@ -102,10 +102,10 @@ fn spoiled_block_is_replaced() {
         let (anchor, mut card) = used();
         card[at] ^= 0x10;
         let refused = Answer::Refused(Refusal::Wrong(leaf));
-        assert_eq!(read(&anchor, &card, 5, &mut [0; 64]), refused);
+        assert_eq!(read(&anchor, &card, 5, &mut [0; 64]).answer, refused);
         let after = written(&anchor, &mut card, 5, [9; 64]);
         assert_eq!(block(&after, &card, 5), [9; 64]);
-        assert_eq!(check(&after, &card), Answer::Accepted(after));
+        assert_eq!(check(&after, &card).answer, Answer::Accepted(after));
     }
 }
 
@@ -116,11 +116,11 @@ fn every_byte_is_checked() {
     for at in 0..card.len() {
         let mut spoiled = card.clone();
         spoiled[at] ^= 1;
-        assert_eq!(check(&anchor, &spoiled).number(), 8, "byte {at}");
+        assert_eq!(check(&anchor, &spoiled).answer.number(), 8, "byte {at}");
         for index in 0..8 {
             let path = paths::read_checks(DEPTH, BlockIndex(index));
             let hit = path.iter().any(|&u| layout::entry(DEPTH, u).contains(&at));
-            let answer = read(&anchor, &spoiled, index, &mut [0; 64]);
+            let answer = read(&anchor, &spoiled, index, &mut [0; 64]).answer;
             assert_eq!(answer.number() == 8, hit, "byte {at}, block {index}");
         }
     }

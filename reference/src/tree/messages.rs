@@ -22,18 +22,18 @@ pub fn message(anchor: &Anchor, card: &[u8], node: Node) -> Vec<u8> {
     message
 }
 
-/// The tag that the node has to have: the CMAC of its message.
-pub fn right_tag(anchor: &Anchor, card: &[u8], node: Node) -> [u8; layout::TAG_BYTES] {
-    Cmac::new(&anchor.key).tag(&message(anchor, card, node))
+/// The tag that the node has to have: the CMAC of its message, under the anchor's key.
+pub fn right_tag(cmac: &Cmac, anchor: &Anchor, card: &[u8], node: Node) -> [u8; layout::TAG_BYTES] {
+    cmac.tag(&message(anchor, card, node))
 }
 
 /// Whether the tag on the card is that one.
-pub fn is_right(anchor: &Anchor, card: &[u8], node: Node) -> bool {
-    card[layout::tag(anchor.depth, node)] == right_tag(anchor, card, node)
+pub fn is_right(cmac: &Cmac, anchor: &Anchor, card: &[u8], node: Node) -> bool {
+    card[layout::tag(anchor.depth, node)] == right_tag(cmac, anchor, card, node)
 }
 
 /// Gives the node its tag.
-pub fn put_tag(anchor: &Anchor, card: &mut [u8], node: Node) {
-    let tag = right_tag(anchor, card, node);
+pub fn put_tag(cmac: &Cmac, anchor: &Anchor, card: &mut [u8], node: Node) {
+    let tag = right_tag(cmac, anchor, card, node);
     card[layout::tag(anchor.depth, node)].copy_from_slice(&tag);
 }

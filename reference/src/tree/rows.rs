@@ -1,6 +1,7 @@
 //! Document 01's table, rows a to k.
 
 use super::*;
+use crate::cmac::Cmac;
 
 const KEY: [u8; 16] = [0x3c; 16];
 
@@ -16,7 +17,7 @@ fn formatted(depth: u64) -> (Anchor, Vec<u8>) {
 /// Writes a block; no answer but the new anchor will do.
 fn written(anchor: &Anchor, card: &mut [u8], index: u64) -> Anchor {
     let mut buffer = vec![0; ranges::buffer_bytes(anchor.depth)];
-    match write(anchor, card, index, &[0x77; 64], &mut buffer) {
+    match write(anchor, card, index, &[0x77; 64], &mut buffer).answer {
         Answer::Accepted(after) => after,
         refused => panic!("write: {refused:?}"),
     }
@@ -26,7 +27,7 @@ fn written(anchor: &Anchor, card: &mut [u8], index: u64) -> Anchor {
 fn moved_to(anchor: &Anchor, card: &mut [u8], root: u64) -> Anchor {
     let moved = Anchor { root, ..*anchor };
     for node in [Node(2), Node(3)] {
-        messages::put_tag(&moved, card, node);
+        messages::put_tag(&Cmac::new(&KEY), &moved, card, node);
     }
     moved
 }
@@ -36,7 +37,7 @@ fn numbers(anchor: &Anchor, card: &[u8]) -> [u64; 3] {
     let mut written = card.to_vec();
     let write = write(anchor, &mut written, 0, &[0; 64], &mut [0; 256]);
     let read = read(anchor, card, 0, &mut [0; 64]);
-    [check(anchor, card), read, write].map(|answer| answer.number())
+    [check(anchor, card), read, write].map(|counted| counted.answer.number())
 }
 
 /// Rows a and b: the card's length.
@@ -50,8 +51,8 @@ fn rows_a_b() {
 fn expect_ranges(depth: u64, index: u64, expected: &[(u32, u32)]) {
     let (anchor, mut card) = formatted(depth);
     let mut buffer = vec![0x99; 16 * depth as usize + 3];
-    let answer = write(&anchor, &mut card, index, &[1; 64], &mut buffer);
-    assert_eq!(answer.number(), 0);
+    let written = write(&anchor, &mut card, index, &[1; 64], &mut buffer);
+    assert_eq!(written.answer.number(), 0);
     let mut bytes = Vec::new();
     for (offset, length) in expected {
         bytes.extend(offset.to_be_bytes());
@@ -139,9 +140,10 @@ fn row_j() {
 fn row_k() {
     let (anchor, card) = formatted(2);
     for (index, number) in [(3, 0), (4, 4)] {
-        assert_eq!(read(&anchor, &card, index, &mut [0; 64]).number(), number);
+        let read = read(&anchor, &card, index, &mut [0; 64]);
+        assert_eq!(read.answer.number(), number);
         let mut copy = card.clone();
-        let answer = write(&anchor, &mut copy, index, &[0; 64], &mut [0; 32]);
-        assert_eq!(answer.number(), number);
+        let written = write(&anchor, &mut copy, index, &[0; 64], &mut [0; 32]);
+        assert_eq!(written.answer.number(), number);
     }
 }

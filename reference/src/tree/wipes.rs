@@ -10,8 +10,8 @@ fn used(depth: u64) -> (Anchor, Vec<u8>) {
     let mut card = vec![0x4b; layout::card_bytes(depth)];
     let mut anchor = accepted(format(&KEY, depth, &mut card));
     for (index, byte) in [(1, 0x11), (0, 0x22), (1, 0x33)] {
-        let answer = write(&anchor, &mut card, index, &[byte; 64], &mut [0; 256]);
-        anchor = accepted(answer);
+        let written = write(&anchor, &mut card, index, &[byte; 64], &mut [0; 256]);
+        anchor = accepted(written.answer);
     }
     (anchor, card)
 }
@@ -43,13 +43,13 @@ fn expected(depth: u64, nonce: u64) -> Vec<u8> {
 
 /// The numbers that a check answers, and then for each block a read and a write.
 fn numbers(anchor: &Anchor, card: &[u8]) -> Vec<u64> {
-    let mut answers = vec![check(anchor, card)];
+    let mut all = vec![check(anchor, card)];
     for index in 0..layout::blocks(anchor.depth) {
-        answers.push(read(anchor, card, index, &mut [0; 64]));
+        all.push(read(anchor, card, index, &mut [0; 64]));
         let mut written = card.to_vec();
-        answers.push(write(anchor, &mut written, index, &[9; 64], &mut [0; 256]));
+        all.push(write(anchor, &mut written, index, &[9; 64], &mut [0; 256]));
     }
-    answers.iter().map(Answer::number).collect()
+    all.iter().map(|counted| counted.answer.number()).collect()
 }
 
 /// Every byte of the card and the anchor, after writes and after another wipe.
@@ -58,12 +58,12 @@ fn leaves_an_empty_card() {
     for depth in 1..=5 {
         let (anchor, mut card) = used(depth);
         assert_eq!(anchor.root, 3 * depth);
-        let once = accepted(wipe(&anchor, &mut card));
+        let once = accepted(wipe(&anchor, &mut card).answer);
         let root = 4 * depth;
         assert_eq!(once, Anchor { root, ..anchor });
         assert_eq!(card, expected(depth, 4 * depth));
         assert!(numbers(&once, &card).iter().all(|&number| number == 0));
-        let twice = accepted(wipe(&once, &mut card));
+        let twice = accepted(wipe(&once, &mut card).answer);
         assert_eq!(twice.root, 5 * depth);
         assert_eq!(card, expected(depth, 5 * depth));
     }
@@ -109,7 +109,7 @@ fn refusals_in_order() {
         let key = KEY;
         let anchor = Anchor { key, depth, root };
         let mut card = vec![0x3d; length];
-        let answer = wipe(&anchor, &mut card);
+        let answer = wipe(&anchor, &mut card).answer;
         assert_eq!(answer.number(), number, "{anchor:?}, {length}");
         assert_eq!(card == vec![0x3d; length], number != 0);
     }
@@ -121,13 +121,13 @@ fn largest_sum_fits() {
     for depth in [1, 3, 5] {
         let (key, root) = (KEY, u64::MAX - depth);
         let mut card = vec![0; layout::card_bytes(depth)];
-        let after = accepted(wipe(&Anchor { key, depth, root }, &mut card));
+        let after = accepted(wipe(&Anchor { key, depth, root }, &mut card).answer);
         assert_eq!(after.root, u64::MAX);
         assert_eq!(card, expected(depth, u64::MAX));
         let numbers = numbers(&after, &card);
         assert_eq!(numbers[0], 0);
         assert!(numbers[1..].chunks(2).all(|pair| pair == [0, 7]));
-        assert_eq!(wipe(&after, &mut card).number(), 7);
+        assert_eq!(wipe(&after, &mut card).answer.number(), 7);
     }
 }
 
@@ -136,10 +136,10 @@ fn largest_sum_fits() {
 fn cut_between_anchor_and_card() {
     for depth in 1..=4 {
         let (anchor, old) = used(depth);
-        let after = accepted(wipe(&anchor, &mut old.clone()));
+        let after = accepted(wipe(&anchor, &mut old.clone()).answer);
         assert!(numbers(&after, &old).iter().all(|&number| number == 8));
         let mut card = old;
-        let again = accepted(wipe(&after, &mut card));
+        let again = accepted(wipe(&after, &mut card).answer);
         assert!(numbers(&again, &card).iter().all(|&number| number == 0));
     }
 }
@@ -149,21 +149,21 @@ fn cut_between_anchor_and_card() {
 fn cut_within_the_card() {
     let (anchor, old) = used(3);
     let mut new = old.clone();
-    let after = accepted(wipe(&anchor, &mut new));
+    let after = accepted(wipe(&anchor, &mut new).answer);
     for out in 0..old.len() {
         let mut torn = [&new[..out], &old[out..]].concat();
         assert_eq!(
-            check(&after, &torn).number() == 0,
+            check(&after, &torn).answer.number() == 0,
             torn == new,
             "{out} bytes"
         );
         for index in 0..8 {
             let mut buffer = [0x5c; 64];
-            let answer = read(&after, &torn, index, &mut buffer);
+            let answer = read(&after, &torn, index, &mut buffer).answer;
             let zeros = answer.number() == 0 && buffer == [0; 64];
             assert!(zeros || answer.number() == 8, "{out} bytes, block {index}");
         }
-        let again = accepted(wipe(&after, &mut torn));
+        let again = accepted(wipe(&after, &mut torn).answer);
         assert_eq!(torn, expected(3, again.root));
     }
 }
@@ -172,14 +172,14 @@ fn cut_within_the_card() {
 #[test]
 fn written_again() {
     let (anchor, mut card) = used(2);
-    let wiped = accepted(wipe(&anchor, &mut card));
-    let after = accepted(write(&wiped, &mut card, 2, &[8; 64], &mut [0; 32]));
+    let wiped = accepted(wipe(&anchor, &mut card).answer);
+    let after = accepted(write(&wiped, &mut card, 2, &[8; 64], &mut [0; 32]).answer);
     assert_eq!(after.root, 10);
     let nonces = [1, 2, 3].map(|node| messages::nonce(&after, &card, Node(node)).0);
     assert_eq!(nonces, [10, 8, 9]);
     for (index, byte) in [(0, 0), (1, 0), (2, 8), (3, 0)] {
         let mut buffer = [1; 64];
-        assert_eq!(read(&after, &card, index, &mut buffer).number(), 0);
+        assert_eq!(read(&after, &card, index, &mut buffer).answer.number(), 0);
         assert_eq!(buffer, [byte; 64]);
     }
 }

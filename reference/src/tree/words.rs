@@ -1,4 +1,4 @@
-//! "Words": nodes, block indices, nonces and the anchor; and what a call answers.
+//! "Words": nodes, block indices, nonces and the anchor; and what a call answers and carries.
 
 /// A node's number: 1 for the root, and below u there are 2u and 2u + 1.
 #[derive(Clone, Copy, Debug, PartialEq, Eq, PartialOrd, Ord)]
@@ -87,6 +87,13 @@ impl Answer {
             _ => 0,
         }
     }
+}
+
+/// What read, write, check and wipe give: the answer, and how many blocks AES encrypted for it.
+#[derive(Clone, Copy, Debug, PartialEq, Eq)]
+pub struct Counted {
+    pub answer: Answer,
+    pub count: u64,
 }
 
 impl From<Result<Anchor, Refusal>> for Answer {

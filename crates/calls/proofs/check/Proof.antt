@@ -1,9 +1,8 @@
 use mathlib.Core.Path.{_∙_}
 use denote.Ref.{now}
-use Rattle.cmac.specs.Cmac.{cmacOf}
 use Rattle.tree.specs.Calls.{check}
 use Rattle.tree.proofs.LimitLaws.{no-limits}
-use Rattle.calls.proofs.OutcomeLaws.{gives-first, own-decide}
+use Rattle.calls.proofs.OutcomeLaws.{reports-first, own-decide}
 use borrow.Author.Needs.{needs}
 use Rattle.calls.proofs.check.Statement.{statement}
 use Rattle.calls.proofs.check.Tie as tie
@@ -12,7 +11,7 @@ returns : tie.Need-returns
 returns c =
     let first = c .before in
     let a = first .before .before .args in
-    gives-first (cmacOf (a .anchor .key)) (a .anchor) (now (a .card)) check (first .first .result) (first .first .ensures) (c .match .keys2)
+    reports-first (a .anchor) (now (a .card)) check (first .first .result) (first .first .ensures) (c .match .keys2)
 
 check-requires : tie.Need-check-requires
 check-requires c κs =

@@ -18,19 +18,17 @@ deep c = deep-enough _ (sym (c .before .before .depth .ensures) ∙ c .enum-told
 
 returns : tie.Need-returns
 returns c =
-    let s = c .before .before .before .before .before in
-    rw (c .refused .ensures .0, c .refused .ensures .1)
-    (format-refuses (cmacOf (s .args .key)) (anchor s) refl (now (s .args .card)) _
-    (stop _ _ (sym (c .before .before .before .depth .ensures) ∙ c .before .enum-told2 .given .1)))
+    let s = c .before .before .before .before in
+    format-refuses (cmacOf (s .args .key)) (anchor s) refl (now (s .args .card)) _
+    (stop _ _ (sym (c .before .before .depth .ensures) ∙ c .enum-told2 .given .1))
 
 returns-2 : tie.Need-returns-2
 returns-2 c =
-    let passed-depth = c .before .before .before .before in
+    let passed-depth = c .before .before .before in
     let s = passed-depth .before .before .before .before in
-    rw (c .refused2 .ensures .0, c .refused2 .ensures .1)
-    (format-refuses (cmacOf (s .args .key)) (anchor s) refl (now (s .args .card)) _
+    format-refuses (cmacOf (s .args .key)) (anchor s) refl (now (s .args .card)) _
     (skip _ _ (sym (passed-depth .before .before .depth .ensures) ∙ passed-depth .enum-told .given .1)
-    ∙ stop _ _ (sym (c .before .before .before .card-length .ensures) ∙ c .before .enum-told4 .given .1)))
+    ∙ stop _ _ (sym (c .before .before .card-length .ensures) ∙ c .enum-told4 .given .1))
 
 abbrev passed-depth : tie.After-enum-told3 → tie.After-enum-told
 passed-depth c = c .before .before .before
@@ -50,11 +48,11 @@ returns-3 c =
     let blank = c .before .before in
     let told = blank .before .before in
     let s = passed-depth told .before .before .before .before in
-    gives-format (cmacOf (s .args .key)) (anchor s) refl (now (s .args .card)) _ (is-card told) (blank .blank .ensures)
+    gives-format (cmacOf (s .args .key)) (anchor s) refl (now (s .args .card)) _ (is-card told) (blank .blank .ensures .0)
 
 pub format-spec : {M : Type 1} → statement M
 format-spec =
     tie.close
     (tie.spec
-    (λ c κs. search needs) (λ c. search needs) (λ c. search needs) (λ c κs. search needs) returns (λ c κs. deep c .1) (λ c. search needs)
-    (λ c. search needs) (λ c κs. search needs) returns-2 (λ c κs. is-card (c .before)) (λ c. search needs) returns-3)
+    (λ c κs. search needs) (λ c. search needs) (λ c. search needs) returns (λ c κs. deep c .1) (λ c. search needs)
+    (λ c. search needs) returns-2 (λ c κs. is-card (c .before)) (λ c. search needs) returns-3)

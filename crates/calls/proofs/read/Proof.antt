@@ -3,11 +3,10 @@ use mathlib.Core.Path.{_≡_, sym, _∙_}
 use Prim.Native.Nat.{ℕ}
 use denote.Ref.{now}
 use lib.ListN.{drop}
-use Rattle.cmac.specs.Cmac.{cmacOf}
 use Rattle.tree.specs.Limits.{firstFailing}
 use Rattle.tree.specs.Calls.{Call, read, ownLimits, limits}
 use Rattle.tree.proofs.LimitLaws.{no-limits, skip, stop, Sound}
-use Rattle.calls.proofs.OutcomeLaws.{refuses, gives-first, first-sound, own-decide}
+use Rattle.calls.proofs.OutcomeLaws.{refuses, reports-first, first-sound, own-decide}
 use borrow.Author.Needs.{needs}
 use Rattle.calls.proofs.read.Statement.{statement}
 use Rattle.calls.proofs.read.Tie as tie
@@ -48,20 +47,20 @@ returns : tie.Need-returns
 returns c =
     let first = c .before in
     let s = start first in
-    gives-first (cmacOf (s .args .anchor .key)) (s .args .anchor) (now (s .args .card)) (call s) (first .first .result)
+    reports-first (s .args .anchor) (now (s .args .card)) (call s) (first .first .result)
     (first .first .ensures)
     (c .match .keys2)
 
 returns-2 : tie.Need-returns-2
 returns-2 c =
     let s = start (c .before .before .before .before .before) in
-    refuses (cmacOf (s .args .anchor .key)) (s .args .anchor) (now (s .args .card)) (call s) _
+    refuses (s .args .anchor) (now (s .args .card)) (call s) _
     (left0 (c .before .before .before) ∙ stop _ _ (sym (c .before .before .block-number .ensures) ∙ c .enum-told3 .given .1))
 
 returns-3 : tie.Need-returns-3
 returns-3 c =
     let s = start1 (c .before .before .before) in
-    refuses (cmacOf (s .args .anchor .key)) (s .args .anchor) (now (s .args .card)) (call s) _
+    refuses (s .args .anchor) (now (s .args .card)) (call s) _
     (left1 (c .before .before .before) ∙ stop _ _ (sym (c .before .before .block-length .ensures) ∙ c .enum-told5 .given .1))
 
 pub read-spec : {M : Type 1} → statement M

@@ -1,10 +1,9 @@
 use mathlib.Core.Path.{_≡_, sym, _∙_}
 use denote.Ref.{now}
-use Rattle.cmac.specs.Cmac.{cmacOf}
 use Rattle.tree.specs.Limits.{firstFailing}
 use Rattle.tree.specs.Calls.{wipe, ownLimits, limits}
 use Rattle.tree.proofs.LimitLaws.{no-limits, skip, stop}
-use Rattle.calls.proofs.OutcomeLaws.{refuses, gives-first, own-decide}
+use Rattle.calls.proofs.OutcomeLaws.{refuses, reports-first, own-decide}
 use borrow.Author.Needs.{needs}
 use Rattle.calls.proofs.wipe.Statement.{statement}
 use Rattle.calls.proofs.wipe.Tie as tie
@@ -24,14 +23,14 @@ returns : tie.Need-returns
 returns c =
     let first = c .before in
     let a = start first .args in
-    gives-first (cmacOf (a .anchor .key)) (a .anchor) (now (a .card)) wipe (first .first .result) (first .first .ensures) (c .match .keys2)
+    reports-first (a .anchor) (now (a .card)) wipe (first .first .result) (first .first .ensures) (c .match .keys2)
 
 returns-2 : tie.Need-returns-2
 returns-2 c =
     let told = c .before in
     let a = start (told .before .before .before .before .before .before) .args in
-    rw (c .refused .ensures .0, c .refused .ensures .1)
-    (refuses (cmacOf (a .anchor .key)) (a .anchor) (now (a .card)) wipe _
+    rw (c .refused .ensures .0, c .refused .ensures .1 .0, c .refused .ensures .1 .1)
+    (refuses (a .anchor) (now (a .card)) wipe _
     (left (told .before .before .before .before)
     ∙ stop _ _ (sym (told .before .before .nonces-spent .ensures) ∙ told .enum-told3 .given .1)))
 

@@ -3,11 +3,10 @@ use mathlib.Core.Path.{_≡_, sym, _∙_}
 use Prim.Native.Nat.{ℕ}
 use denote.Ref.{now}
 use lib.ListN.{drop}
-use Rattle.cmac.specs.Cmac.{cmacOf}
 use Rattle.tree.specs.Limits.{firstFailing}
 use Rattle.tree.specs.Calls.{Call, write, ownLimits, limits}
 use Rattle.tree.proofs.LimitLaws.{no-limits, skip, stop, Sound}
-use Rattle.calls.proofs.OutcomeLaws.{refuses, gives-first, first-sound, own-decide}
+use Rattle.calls.proofs.OutcomeLaws.{refuses, reports-first, first-sound, own-decide}
 use borrow.Author.Needs.{needs}
 use Rattle.calls.proofs.write.Statement.{statement}
 use Rattle.calls.proofs.write.Tie as tie
@@ -60,7 +59,7 @@ returns : tie.Need-returns
 returns c =
     let first = c .before in
     let s = start first in
-    gives-first (cmacOf (s .args .anchor .key)) (s .args .anchor) (now (s .args .card)) (call s) (first .first .result)
+    reports-first (s .args .anchor) (now (s .args .card)) (call s) (first .first .result)
     (first .first .ensures)
     (c .match .keys2)
 
@@ -68,32 +67,32 @@ returns-2 : tie.Need-returns-2
 returns-2 c =
     let told = c .before in
     let s = start (told .before .before .before .before .before) in
-    rw (c .refused .ensures .0, c .refused .ensures .1)
-    (refuses (cmacOf (s .args .anchor .key)) (s .args .anchor) (now (s .args .card)) (call s) _
+    rw (c .refused .ensures .0, c .refused .ensures .1 .0, c .refused .ensures .1 .1)
+    (refuses (s .args .anchor) (now (s .args .card)) (call s) _
     (left0 (told .before .before .before) ∙ stop _ _ (sym (told .before .before .block-number .ensures) ∙ told .enum-told3 .given .1)))
 
 returns-3 : tie.Need-returns-3
 returns-3 c =
     let told = c .before in
     let s = start1 (told .before .before .before) in
-    rw (c .refused2 .ensures .0, c .refused2 .ensures .1)
-    (refuses (cmacOf (s .args .anchor .key)) (s .args .anchor) (now (s .args .card)) (call s) _
+    rw (c .refused2 .ensures .0, c .refused2 .ensures .1 .0, c .refused2 .ensures .1 .1)
+    (refuses (s .args .anchor) (now (s .args .card)) (call s) _
     (left1 (told .before .before .before) ∙ stop _ _ (sym (told .before .before .block-length .ensures) ∙ told .enum-told5 .given .1)))
 
 returns-4 : tie.Need-returns-4
 returns-4 c =
     let told = c .before in
     let s = start2 (told .before .before .before) in
-    rw (c .refused3 .ensures .0, c .refused3 .ensures .1)
-    (refuses (cmacOf (s .args .anchor .key)) (s .args .anchor) (now (s .args .card)) (call s) _
+    rw (c .refused3 .ensures .0, c .refused3 .ensures .1 .0, c .refused3 .ensures .1 .1)
+    (refuses (s .args .anchor) (now (s .args .card)) (call s) _
     (left2 (told .before .before .before) ∙ stop _ _ (sym (told .before .before .range-length .ensures) ∙ told .enum-told7 .given .1)))
 
 returns-5 : tie.Need-returns-5
 returns-5 c =
     let told = c .before in
     let s = start3 (told .before .before .before .before) in
-    rw (c .refused4 .ensures .0, c .refused4 .ensures .1)
-    (refuses (cmacOf (s .args .anchor .key)) (s .args .anchor) (now (s .args .card)) (call s) _
+    rw (c .refused4 .ensures .0, c .refused4 .ensures .1 .0, c .refused4 .ensures .1 .1)
+    (refuses (s .args .anchor) (now (s .args .card)) (call s) _
     (left3 (told .before .before .before .before)
     ∙ stop _ _ (sym (told .before .before .nonces-spent .ensures) ∙ told .enum-told9 .given .1)))
 

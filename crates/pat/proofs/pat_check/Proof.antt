@@ -20,10 +20,10 @@ returns-2 c =
     let s = anchor-of .before .before .before .before .args in
     let a = anchor-of .of .result in
     rw (host-call (now (s .anchor)) (now (s .card)) a (anchor-of .of .ensures) (anchor-of .before .if1 .left) check, c .of2 .ensures)
-    (hosted-kept (now (s .anchor)) _ (checked .check .result) a (now (s .card)) _ (checked .check .ensures) false refl)
+    (hosted-kept (now (s .anchor)) _ (checked .check .result .answer) a (now (s .card)) _ (checked .check .ensures .gives) false refl)
 
 pub pat-check-spec : {M : Type 1} → statement M
 pat-check-spec =
     tie.close
     (tie.spec
-    returns (λ c κs. search needs) (λ c κs. search needs) (λ c κs. rw (c .check .ensures .answered) (node-small _ _ _ _)) returns-2)
+    returns (λ c κs. search needs) (λ c κs. search needs) (λ c κs. rw (c .check .ensures .gives .answered) (node-small _ _ _ _)) returns-2)

@@ -24,11 +24,12 @@ returns-2 c =
           (read (s .index) (now (s .buffer))),
       c .of2 .ensures,
     )
-    (hosted-kept (now (s .anchor)) _ (was-read .read .result) a (now (s .card)) _ (was-read .read .ensures) false refl)
+    (hosted-kept (now (s .anchor)) _ (was-read .read .result .answer) a (now (s .card)) _ (was-read .read .ensures .gives) false refl)
 
 pub pat-read-spec : {M : Type 1} → statement M
 pat-read-spec =
     tie.close
     (tie.spec
-    returns (λ c κs. search needs) (λ c κs. search needs) (λ c κs. rw (c .before .before .read .ensures .answered) (node-small _ _ _ _))
+    returns (λ c κs. search needs) (λ c κs. search needs)
+    (λ c κs. rw (c .before .before .read .ensures .gives .answered) (node-small _ _ _ _))
     (λ c. search needs) returns-2)

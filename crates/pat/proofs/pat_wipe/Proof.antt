@@ -22,7 +22,7 @@ returns-2 c =
       host-call (now (s .anchor)) (now (s .card)) a (anchor-of .of .ensures) (anchor-of .before .before .if1 .left) wipe,
       c .of2 .ensures,
     )
-    (hosted-kept (now (s .anchor)) _ (wiped .wipe .result .answer) (wiped .wipe .result .anchor) _ _ (wiped .wipe .ensures) true
+    (hosted-kept (now (s .anchor)) _ (wiped .wipe .result .answer) (wiped .wipe .result .anchor) _ _ (wiped .wipe .ensures .gives) true
     (not-whole (wiped .wipe .result .answer) (c .before .match .keys2)))
 
 returns-3 : tie.Need-returns-3
@@ -37,7 +37,7 @@ returns-3 c =
       host-call (now (s .anchor)) (now (s .card)) a (anchor-of .of .ensures) (anchor-of .before .before .if1 .left) wipe,
       put .put-root .ensures,
     )
-    (hosted-moved (now (s .anchor)) _ (wiped .wipe .result .answer) (wiped .wipe .result .anchor) _ _ (wiped .wipe .ensures)
+    (hosted-moved (now (s .anchor)) _ (wiped .wipe .result .answer) (wiped .wipe .result .anchor) _ _ (wiped .wipe .ensures .gives)
     (told .enum-told .given .1))
 
 pub pat-wipe-spec : {M : Type 1} → statement M
@@ -45,6 +45,6 @@ pat-wipe-spec =
     tie.close
     (tie.spec
     returns (λ c κs. search needs) (λ c κs. search needs) (λ c. search needs)
-    (λ c κs. rw (c .before .before .before .wipe .ensures .answered) (node-small _ _ _ _)) (λ c. search needs)
+    (λ c κs. rw (c .before .before .before .wipe .ensures .gives .answered) (node-small _ _ _ _)) (λ c. search needs)
     (λ c. search needs) returns-2
     (λ c κs. search needs) (λ c. search needs) (λ c. search needs) returns-3)

@@ -23,7 +23,7 @@ returns-2 c =
           (write (s .index) (now (s .block)) (now (s .ranges))),
       c .of2 .ensures,
     )
-    (hosted-kept (now (s .anchor)) _ (wrote .write .result .answer) (wrote .write .result .anchor) _ _ (wrote .write .ensures) true
+    (hosted-kept (now (s .anchor)) _ (wrote .write .result .answer) (wrote .write .result .anchor) _ _ (wrote .write .ensures .gives) true
     (not-whole (wrote .write .result .answer) (c .before .match .keys2)))
 
 returns-3 : tie.Need-returns-3
@@ -39,7 +39,7 @@ returns-3 c =
           (write (s .index) (now (s .block)) (now (s .ranges))),
       put .put-root .ensures,
     )
-    (hosted-moved (now (s .anchor)) _ (wrote .write .result .answer) (wrote .write .result .anchor) _ _ (wrote .write .ensures)
+    (hosted-moved (now (s .anchor)) _ (wrote .write .result .answer) (wrote .write .result .anchor) _ _ (wrote .write .ensures .gives)
     (told .enum-told .given .1))
 
 pub pat-write-spec : {M : Type 1} → statement M
@@ -47,6 +47,6 @@ pat-write-spec =
     tie.close
     (tie.spec
     returns (λ c κs. search needs) (λ c κs. search needs) (λ c. search needs)
-    (λ c κs. rw (c .before .before .before .before .before .write .ensures .answered) (node-small _ _ _ _))
+    (λ c κs. rw (c .before .before .before .before .before .write .ensures .gives .answered) (node-small _ _ _ _))
     (λ c. search needs) (λ c. search needs) (λ c. search needs) returns-2 (λ c κs. search needs) (λ c. search needs) (λ c. search needs)
     (λ c. search needs) returns-3)

@@ -6,6 +6,7 @@ use native.Mathlib.Omega.{arith}
 use lib.ListN.{length, length-take, length-drop}
 use Rattle.words.specs.Bytes.{part, same}
 use Rattle.cmac.specs.Context.{tagUnder}
+use Rattle.cmac.specs.Traced.{countUnder}
 use Rattle.tree.specs.Layout.{size, offset, label, tag}
 use Rattle.tree.specs.Labels.{form}
 use Rattle.tree.specs.Tests.{passing}
@@ -45,13 +46,13 @@ returns c =
     let e : o .result + s .result - o .result ≡ size n u = omega (arith, s .ensures) in
     let m : o .result + s .result ≡ offset n u + size n u = ap₂ _+_ (o .ensures) (s .ensures) in
     let k : o .result + s .result + 16 - (o .result + s .result) ≡ 16 = omega arith in
-    c .test .ensures
-    ∙ ap passing
-    (ap₂ same
-    (ap (tagUnder (now (a .schedule)) (now (a .subkeys)))
-    (ap₂ (λ (x p : List ℕ). form x p (u % 2)) (ap₂ (part card) (o .ensures) e ∙ sym (labels-below n (a .root .0) card u (omega arith)))
-    (c .before .before .before .nonce-at .ensures)))
-    (ap₂ (part card) m k))
+    let f =
+    ap₂ (λ (x p : List ℕ). form x p (u % 2)) (ap₂ (part card) (o .ensures) e ∙ sym (labels-below n (a .root .0) card u (omega arith)))
+    (c .before .before .before .nonce-at .ensures) in (
+      c .test .ensures .0
+          ∙ ap passing (ap₂ same (ap (tagUnder (now (a .schedule)) (now (a .subkeys))) f) (ap₂ (part card) m k)),
+      c .test .ensures .1 ∙ ap (countUnder (now (a .schedule)) (now (a .subkeys))) f,
+    )
 
 pub node-spec : {M : Type 1} → statement M
 node-spec =

@@ -7,6 +7,8 @@ use lib.ListN.{length, take, set, replicate, length-set}
 use lib.Seq.{sets}
 use Rattle.words.specs.Words.{bytes}
 use Rattle.cmac.specs.Context.{tagUnder}
+use Rattle.cmac.specs.Traced.{countUnder}
+use Rattle.tree.specs.Labels.{form}
 use Rattle.tree.proofs.LabelLaws.{form-put}
 use borrow.Author.Needs.{needs}
 use Rattle.card.proofs.tag.of.Statement.{statement}
@@ -19,11 +21,13 @@ returns c =
     let a = label .before .before .before .args in
     let x = now (a .label) in
     let e : length x + 9 - 0 ≡ length x + 9 = omega arith in
-    c .tag-block .ensures
-    ∙ ap (tagUnder (now (a .schedule)) (now (a .subkeys)))
-    (ap (λ (l : List ℕ). take (length x + 9 - 0) (set l (length x + 8) (a .side)))
+    let m : _ ≡ form x (bytes 8 (a .parent)) (a .side) =
+    ap (λ (l : List ℕ). take (length x + 9 - 0) (set l (length x + 8) (a .side)))
     (parent .put-double-word .ensures ∙ ap (λ (l : List ℕ). sets l (length x) (bytes 8 (a .parent))) (label .put .ensures))
-    ∙ rw e (form-put (replicate 73 0) x (a .parent) (a .side) (omega arith)))
+    ∙ rw e (form-put (replicate 73 0) x (a .parent) (a .side) (omega arith)) in (
+      c .tag-block .ensures .0 ∙ ap (tagUnder (now (a .schedule)) (now (a .subkeys))) m,
+      c .tag-block .ensures .1 ∙ ap (countUnder (now (a .schedule)) (now (a .subkeys))) m,
+    )
 
 pub of-spec : {M : Type 1} → statement M
 of-spec =

@@ -19,13 +19,13 @@ compared : (c : tie.After-equal) →
 compared c =
     let a = c .before .before .before .before .before .args in
     sym (c .equal .ensures
-    ∙ ap₂ same (c .before .before .of .ensures) (c .before .block-at .ensures ∙ take-all 16 (now (a .tag)) (omega arith)))
+    ∙ ap₂ same (c .before .before .of .ensures .0) (c .before .block-at .ensures ∙ take-all 16 (now (a .tag)) (omega arith)))
 
 returns : tie.Need-returns
-returns c = ap passing (sym (compared (c .before) ∙ c .if1 .taken))
+returns c = (ap passing (sym (compared (c .before) ∙ c .if1 .taken)), c .before .before .before .of .ensures .1)
 
 returns-2 : tie.Need-returns-2
-returns-2 c = ap passing (sym (compared (c .before) ∙ c .if1 .left))
+returns-2 c = (ap passing (sym (compared (c .before) ∙ c .if1 .left)), c .before .before .before .of .ensures .1)
 
 pub test-spec : {M : Type 1} → statement M
 test-spec = tie.close (tie.spec (λ c κs. search needs) (λ c κs. search needs) (λ c κs. search needs) returns returns-2)

@@ -48,8 +48,8 @@ loop-again c =
     let long = turn .loop .inv .1 in
     let n : 16 ≤ length m = omega (arith, long, start .pre .1) in
     let same : put .put-block .last .0 ≡ retagged key m =
-    put .put-block .ensures ∙ stored m (blockOf (tag .tag-block .result)) refl n
-    ∙ ap (λ (x : List ℕ). x ++ drop 16 m) (tag-made made m (tag .tag-block .ensures)) in (
+    put .put-block .ensures ∙ stored m (blockOf (tag .tag-block .result .block)) refl n
+    ∙ ap (λ (x : List ℕ). x ++ drop 16 m) (tag-made made m (tag .tag-block .ensures .0)) in (
       omega (arith, inside .loop-test .taken),
       put .put-block .kept .0 ∙ long,
       same ∙ ap (retagged key) (turn .loop .inv .2) ∙ sym (repeated-more (retagged key) _ (turn .loop .i)),
