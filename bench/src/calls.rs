@@ -1,5 +1,6 @@
 //! The calls of the round store, at several depths, on several stores.
 
+pub mod before;
 mod card;
 mod instructions;
 mod merkle;

@@ -25,6 +25,7 @@ fn run(plot: Option<&str>) -> Result<(), String> {
     std::env::remove_var(child::VARIABLE);
     eprintln!("Measuring takes about two minutes.");
     let (mut rows, mut results) = (chains::measure()?, calls::measure()?);
+    let pairs = calls::before::measure()?;
     let pace = clock::best_pace();
     let figures = rows.iter_mut().flat_map(|row| &mut row.figures);
     figures.for_each(|figure| figure.scale(pace));
@@ -35,7 +36,9 @@ fn run(plot: Option<&str>) -> Result<(), String> {
     println!("brought to the highest speed of the CPU's clock that was seen. In brackets: the");
     println!("multiple of the proved code's time.\n");
     chains::print(&rows);
-    calls::print(&results, plot.map(Path::new))
+    calls::print(&results, plot.map(Path::new))?;
+    calls::before::print(&pairs, pace);
+    Ok(())
 }
 
 /// The child: Nettle without AES-NI, for one of the tables.

@@ -8,7 +8,7 @@ use crate::report::{print_head, print_line};
 use crate::subject::{OPENSSL, PROVED, WITH, WITHOUT};
 
 /// The calls in the order of the tables.
-const CALLS: [Call; 5] = [
+pub const CALLS: [Call; 5] = [
     Call::Read,
     Call::Write,
     Call::Check,
@@ -36,7 +36,7 @@ pub fn exact(number: u64) -> String {
 }
 
 /// Nanoseconds, to four figures where they are many.
-fn nanoseconds(time: f64) -> String {
+pub fn nanoseconds(time: f64) -> String {
     let scale = 10_f64.powi((time.max(1.0).log10() as i32 - 3).max(0));
     exact(((time / scale).round() * scale) as u64)
 }
@@ -69,7 +69,7 @@ fn explain_cards() {
 /// Says what the rows are.
 fn explain_rows() {
     println!("Nettle and OpenSSL: the same tree in plain C over their CMAC. Each call sets the key, since");
-    println!("it comes with the anchor; `reference/` sets it for each tag.");
+    println!("it comes with the anchor.");
     println!(
         "SHA-256 Merkle tree (SHA-256: {}): without a key, hashes stored, the",
         merkle::whose()
