@@ -56,9 +56,9 @@ extern "C" {
 #endif
 
 // The version of library and header.
-#define PAT_VERSION "0.3.0"
+#define PAT_VERSION "0.4.0"
 #define PAT_VERSION_MAJOR 0
-#define PAT_VERSION_MINOR 3
+#define PAT_VERSION_MINOR 4
 #define PAT_VERSION_PATCH 0
 
 // The stack that any call needs at most.
@@ -85,6 +85,21 @@ extern "C" {
 #define PAT_RANGES(depth) ((size_t)2 * (size_t)(depth))
 #define PAT_RANGE_BYTES(depth) (8 * PAT_RANGES(depth))
 #define PAT_MAX_RANGE_BYTES 256
+
+// How many AES calls an accepted call makes on a card of that depth, for those who plan the chip's
+// work: 1 for the subkeys of the CMAC, 2 for each tag of an inner node that is checked or made, 5
+// for each tag of a block. That is 2 * depth + 4 for a read, 8 * depth + 8 for a write, in place
+// too, and 7 * 2^depth - 3 for a check and for a wipe. A refusal with 8 makes those up to and with
+// the wrong tag, and so never more than these; every other refusal makes none. 0 for a depth that
+// is not 1 to 16. Constant expressions where the depth is one; the depth is evaluated more than
+// once.
+#define PAT_AES_READ(depth)                                                                        \
+    ((depth) >= 1 && (depth) <= PAT_MAX_DEPTH ? (size_t)2 * (size_t)(depth) + 4 : (size_t)0)
+#define PAT_AES_WRITE(depth)                                                                       \
+    ((depth) >= 1 && (depth) <= PAT_MAX_DEPTH ? (size_t)8 * (size_t)(depth) + 8 : (size_t)0)
+#define PAT_AES_CHECK(depth)                                                                       \
+    ((depth) >= 1 && (depth) <= PAT_MAX_DEPTH ? ((size_t)7 << ((depth)&31)) - 3 : (size_t)0)
+#define PAT_AES_WIPE(depth) PAT_AES_CHECK(depth)
 
 // Why a call is refused. Behind the colon, who can mend it.
 enum pat_refusals {

@@ -72,6 +72,12 @@ void json_state(uint64_t depth, uint64_t root) {
     json_number("card_bytes", pat_card_bytes(depth));
 }
 
+void json_aes_calls(uint64_t depth) {
+    put_name("aes_calls");
+    printf("{\"read\": %zu, \"write\": %zu, \"check\": %zu, \"wipe\": %zu}", PAT_AES_READ(depth),
+           PAT_AES_WRITE(depth), PAT_AES_CHECK(depth), PAT_AES_WIPE(depth));
+}
+
 void json_ranges(const char *name, const uint8_t *ranges, size_t count) {
     json_list_open(name);
     for (size_t k = 0; k < count; k++)

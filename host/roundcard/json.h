@@ -28,6 +28,9 @@ void json_list_close(void);
 // since each moves T by the depth, and the card's length.
 void json_state(uint64_t depth, uint64_t root);
 
+// An object: how many AES calls each accepted call on a card of that depth makes.
+void json_aes_calls(uint64_t depth);
+
 // An array of pairs of start and length.
 void json_ranges(const char *name, const uint8_t *ranges, size_t count);
 

@@ -1,4 +1,5 @@
-// Shows what an anchor file says, except its key, and whether a card image has the length for it.
+// Shows what an anchor file says, except its key, what calls on its card cost, and whether a card
+// image has the length for it.
 #include "anchor.h"
 #include "card.h"
 #include "commands.h"
@@ -30,10 +31,13 @@ static int report(const struct request *request, const struct situation *s) {
         printf("root nonce T  %" PRIu64 "\n", s->root);
         printf("changes made  %" PRIu64 ", writes and wipes together\n", s->root / s->depth);
         printf("card size     %zu bytes\n", pat_card_bytes(s->depth));
+        printf("AES calls     read %zu, write %zu, check %zu, wipe %zu\n", PAT_AES_READ(s->depth),
+               PAT_AES_WRITE(s->depth), PAT_AES_CHECK(s->depth), PAT_AES_WIPE(s->depth));
         return finish_output(request);
     }
     json_open("show", 0);
     json_state(s->depth, s->root);
+    json_aes_calls(s->depth);
     json_close();
     return finish_output(request);
 }
@@ -65,8 +69,12 @@ static const char help[] =
     "usage: roundcard show [--json] ANCHOR [CARD]\n"
     "\n"
     "Shows the depth, the root nonce T, the number of changes made, which are writes and\n"
-    "wipes, and the size of the card that an anchor file is for. It never shows the key.\n"
+    "wipes, and the size of the card that an anchor file is for, and how many AES calls the\n"
+    "library makes for a read, a write, a check and a wipe of it. It never shows the key.\n"
     "With a card image, it also sees whether the image has that size; it checks no tag.\n"
+    "\n"
+    "The AES calls are those of one call that is accepted. A refusal with 8 makes as many at\n"
+    "most, and every other refusal none.\n"
     "\n"
     "  --json  report as a JSON object\n"
     "\n"

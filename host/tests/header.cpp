@@ -6,6 +6,11 @@
 
 static const unsigned depth = 3;
 
+static_assert(PAT_AES_READ(depth) == 10 && PAT_AES_WRITE(depth) == 32, "AES calls of one block");
+static_assert(PAT_AES_CHECK(depth) == 53 && PAT_AES_WIPE(depth) == 53, "AES calls of a whole card");
+static_assert(PAT_AES_READ(0) == 0 && PAT_AES_WRITE(17) == 0, "none where no call is accepted");
+static_assert(PAT_AES_CHECK(-1) == 0 && PAT_AES_WIPE(UINT64_MAX) == 0, "none, here neither");
+
 // A write on the anchor as a struct, and the anchor's bytes after it.
 static bool in_place(uint8_t *anchor, uint8_t *card, const uint8_t *block, uint8_t *ranges) {
     pat_anchor own;

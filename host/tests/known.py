@@ -1,9 +1,10 @@
 #!/usr/bin/env python3
-"""Prints known.h: histories of accepted calls, and what each leaves, computed by model.py and not by the library."""
+"""Prints known.h: histories of accepted calls, what each leaves, and the AES calls of each depth, all computed by model.py and not by
+the library."""
 
 from functools import lru_cache
 
-from model import Card
+from model import Card, aes_calls
 
 KEY = bytes(range(0x40, 0x50))
 
@@ -40,8 +41,8 @@ def write_rows(card, index, seed):
     packed = b"".join(n.to_bytes(4, "big") for pair in ranges for n in pair)
     yield "WRITE", index, block(seed).hex(), card, packed.hex()
     other = (index * 5 + 1) % 2**card.depth
-    yield "READ", other, card.block(other).hex(), card, ""
-    yield "READ", index, card.block(index).hex(), card, ""
+    yield "READ", other, card.read(other).hex(), card, ""
+    yield "READ", index, card.read(index).hex(), card, ""
 
 
 def wipe_rows(card, seed):
@@ -49,7 +50,8 @@ def wipe_rows(card, seed):
     card.wipe()
     yield "WIPE", seed, "", card, ""
     last = 2**card.depth - 1
-    yield "READ", last, card.block(last).hex(), card, ""
+    yield "READ", last, card.read(last).hex(), card, ""
+    card.check()
     yield "CHECK", 0, "", card, ""
 
 
@@ -63,6 +65,7 @@ def rows(depth, steps, root, made):
             yield from wipe_rows(card, seed if step == WIPE_OTHER else 0)
         else:
             yield from write_rows(card, step, seed)
+    card.check()
     yield "CHECK", 0, "", card, ""
 
 
@@ -101,6 +104,12 @@ def main():
     print("// The card from which the history 'last' starts: no format makes it.")
     print("static const char last_card[] =")
     print(f"    {long_string(bytes(Card(KEY, 2, 2**64 - 4).bytes).hex())};")
+    print("// The AES calls of accepted calls at each depth.")
+    print("static const struct aes_calls aes_calls[] = {")
+    for depth in range(1, 17):
+        counted = aes_calls(depth)
+        print(f"    {{{depth}, {counted['read']}, {counted['write']}, {counted['check']}, {counted['wipe']}}},")
+    print("};")
 
 
 if __name__ == "__main__":

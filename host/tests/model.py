@@ -1,5 +1,5 @@
-"""The card of document 01, with the wipe of request T-01, in plain Python, AES-128 and CMAC included, for known answers and for
-the tool's tests."""
+"""The card of document 01, with the wipe of request T-01 and a count of AES calls, in plain Python, AES-128 and CMAC included, for
+known answers and for the tool's tests."""
 
 KEY, BLOCK, TAG, NONCE = 16, 64, 16, 8
 
@@ -46,23 +46,32 @@ def mix(a, b, c, d):
     return [a ^ every ^ TWICE[a ^ b], b ^ every ^ TWICE[b ^ c], c ^ every ^ TWICE[c ^ d], d ^ every ^ TWICE[d ^ a]]
 
 
-def encrypt(keys, block):
-    state = [a ^ b for a, b in zip(block, keys[0])]
-    for number in range(1, 11):
-        state = [SBOX[state[(k + 4 * (k % 4)) % 16]] for k in range(16)]
-        if number < 10:
-            state = sum((mix(*state[k : k + 4]) for k in (0, 4, 8, 12)), [])
-        state = [a ^ b for a, b in zip(state, keys[number])]
-    return state
+class Aes:
+    """FIPS 197 under one key, and how many blocks were encrypted."""
+
+    def __init__(self, key):
+        self.keys, self.calls = expand(key), 0
+
+    def encrypt(self, block):
+        self.calls += 1
+        state = [a ^ b for a, b in zip(block, self.keys[0])]
+        for number in range(1, 11):
+            state = [SBOX[state[(k + 4 * (k % 4)) % 16]] for k in range(16)]
+            if number < 10:
+                state = sum((mix(*state[k : k + 4]) for k in (0, 4, 8, 12)), [])
+            state = [a ^ b for a, b in zip(state, self.keys[number])]
+        return state
 
 
 class Cmac:
-    """RFC 4493 under one key."""
+    """RFC 4493 under one key, and how many AES calls its subkeys and tags took. Where it is to remember, a message that comes again is
+    not computed again, and counts the calls that it took first."""
 
-    def __init__(self, key):
-        self.keys = expand(key)
-        self.subkeys = [self.double(encrypt(self.keys, bytes(16)))]
+    def __init__(self, key, remember=False):
+        self.aes, self.remember, self.made = Aes(key), remember, {}
+        self.subkeys = [self.double(self.aes.encrypt(bytes(16)))]
         self.subkeys.append(self.double(self.subkeys[0]))
+        self.calls = self.aes.calls
 
     @staticmethod
     def double(block):
@@ -70,14 +79,22 @@ class Cmac:
         return ((number & (1 << 128) - 1) ^ (0x87 if number >> 128 else 0)).to_bytes(16, "big")
 
     def tag(self, message):
+        if message not in self.made or not self.remember:
+            before = self.aes.calls
+            self.made[message] = self.compute(message), self.aes.calls - before
+        tag, calls = self.made[message]
+        self.calls += calls
+        return tag
+
+    def compute(self, message):
         cut = 16 * max(0, (len(message) - 1) // 16)
         last, subkey = message[cut:], self.subkeys[0]
         if len(last) < 16:
             last, subkey = (last + b"\x80").ljust(16, b"\0"), self.subkeys[1]
         state = bytes(16)
         for k in range(0, cut, 16):
-            state = encrypt(self.keys, [a ^ b for a, b in zip(state, message[k : k + 16])])
-        return bytes(encrypt(self.keys, [a ^ b ^ c for a, b, c in zip(state, last, subkey)]))
+            state = self.aes.encrypt([a ^ b for a, b in zip(state, message[k : k + 16])])
+        return bytes(self.aes.encrypt([a ^ b ^ c for a, b, c in zip(state, last, subkey)]))
 
 
 def card_bytes(depth):
@@ -103,8 +120,15 @@ class Card:
     def __init__(self, key, depth, root=0):
         """A card whose nonces and blocks are all zero, with tags right for the root nonce: a format where that is 0."""
         self.key, self.depth, self.root = key, depth, root
-        self.cmac, self.bytes = Cmac(key), bytearray(card_bytes(depth))
+        self.bytes = bytearray(card_bytes(depth))
+        self.begin()
         self.empty(0)
+
+    def begin(self, nodes=()):
+        """The start of an accepted call: the subkeys are made, and the tags of these nodes are right. Cards of many blocks take too long
+        to compute every tag."""
+        self.cmac = Cmac(self.key, remember=self.depth > 8)
+        assert self.first_wrong(nodes) is None, "the call would be refused"
 
     def empty(self, nonce):
         """Every block zero, every inner node with that nonce, every tag right for the root nonce."""
@@ -112,12 +136,8 @@ class Card:
             self.put_label(node, nonce.to_bytes(NONCE, "big"))
         for node in range(2**self.depth, 2 * 2**self.depth):
             self.put_label(node, bytes(BLOCK))
-        made = {}
-        for node in range(2, 2 * 2**self.depth):
-            message = self.message(node)
-            if message not in made:
-                made[message] = self.cmac.tag(message)
-            self.put_tag(node, made[message])
+        for node in self.nodes():
+            self.put_tag(node, self.cmac.tag(self.message(node)))
 
     def anchor(self):
         return self.key + self.depth.to_bytes(8, "big") + self.root.to_bytes(8, "big")
@@ -139,13 +159,29 @@ class Card:
         start, size = place(self.depth, node)
         self.bytes[start + size : start + size + TAG] = tag
 
+    def nodes(self):
+        """All that are on the card."""
+        return range(2, 2 * 2**self.depth)
+
     def path(self, index):
         """u_0 to u_n."""
         leaf = 2**self.depth + index
         return [leaf >> self.depth - y for y in range(self.depth + 1)]
 
+    def before_write(self, index):
+        """What a write checks: at each level the path's node and then its sibling, but not the block that it replaces."""
+        order = [child for node in self.path(index)[1:] for child in (node, node ^ 1)]
+        order.remove(2**self.depth + index)
+        return order
+
+    def read(self, index):
+        """An accepted read; gives the block."""
+        self.begin(self.path(index)[1:])
+        return self.block(index)
+
     def write(self, index, block):
         """An accepted write; gives the ranges."""
+        self.begin(self.before_write(index))
         path = self.path(index)
         for y, node in enumerate(path[1:-1], 1):
             self.put_label(node, (self.root + self.depth - y).to_bytes(8, "big"))
@@ -156,8 +192,13 @@ class Card:
                 self.put_tag(child, self.cmac.tag(self.message(child)))
         return self.ranges(index)
 
+    def check(self):
+        """An accepted check."""
+        self.begin(self.nodes())
+
     def wipe(self):
         """An accepted wipe."""
+        self.begin()
         self.root += self.depth
         self.empty(self.root)
 
@@ -179,3 +220,19 @@ class Card:
             if self.bytes[entry(self.depth, node)][-TAG:] != self.cmac.tag(self.message(node)):
                 return node
         return None
+
+
+def aes_calls(depth):
+    """How many AES calls each accepted call makes at a depth, counted twice, on cards that differ: both times as many."""
+    card, counted = Card(bytes(KEY), depth), {"read": set(), "write": set(), "check": set(), "wipe": set()}
+
+    def count(name, *arguments):
+        getattr(card, name)(*arguments)
+        counted[name].add(card.cmac.calls)
+
+    for index in (0, 2**depth - 1):
+        count("write", index, bytes(range(index % 192, index % 192 + BLOCK)))
+        count("read", index)
+        count("check")
+        count("wipe")
+    return {name: calls for name, (calls,) in counted.items()}

@@ -49,6 +49,31 @@ static void test_card_bytes(void) {
                (unsigned long long)no_depths[k]);
 }
 
+// The macros where only a constant expression will do, with arguments that need their brackets, and
+// for no depth. known.h has the numbers of every depth.
+static void test_aes_calls(void) {
+    enum { WIPE_CALLS = PAT_AES_WIPE(1 + 2) };
+    static uint8_t reads[PAT_AES_READ(2 | 1)], writes[PAT_AES_WRITE(4 - 1)], all[PAT_AES_CHECK(3)];
+    expect(sizeof reads == 10 && sizeof writes == 32 && sizeof all == 53 && WIPE_CALLS == 53,
+           "the AES calls as constants");
+    expect(PAT_AES_READ(0) == 0 && PAT_AES_READ(-1) == 0 && PAT_AES_READ(17) == 0 &&
+               PAT_AES_READ(UINT64_MAX) == 0,
+           "no read without a depth");
+    expect(PAT_AES_WRITE(0) == 0 && PAT_AES_WRITE(-1) == 0 && PAT_AES_WRITE(17) == 0 &&
+               PAT_AES_WRITE(UINT64_MAX) == 0,
+           "no write without a depth");
+    expect(PAT_AES_CHECK(0) == 0 && PAT_AES_CHECK(-1) == 0 && PAT_AES_CHECK(17) == 0 &&
+               PAT_AES_CHECK(UINT64_MAX) == 0,
+           "no check without a depth");
+    expect(PAT_AES_WIPE(0) == 0 && PAT_AES_WIPE(-1) == 0 && PAT_AES_WIPE(17) == 0 &&
+               PAT_AES_WIPE(UINT64_MAX) == 0,
+           "no wipe without a depth");
+    for (size_t k = 0; k < NO_DEPTHS; k++)
+        expect(PAT_AES_READ(no_depths[k]) == 0 && PAT_AES_WRITE(no_depths[k]) == 0 &&
+                   PAT_AES_CHECK(no_depths[k]) == 0 && PAT_AES_WIPE(no_depths[k]) == 0,
+               "no call is accepted at a depth of %llu", (unsigned long long)no_depths[k]);
+}
+
 // Whether two answers have one sentence; the compiler may not know the first beforehand.
 static bool same_text(uint64_t one, uint64_t other) {
     const char *volatile text = pat_refusal_text(one);
@@ -136,6 +161,7 @@ void test_header(void) {
     test_version();
     test_numbers();
     test_card_bytes();
+    test_aes_calls();
     test_refusal_text();
     test_blocks_under();
     test_no_blocks();

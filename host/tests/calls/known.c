@@ -1,4 +1,5 @@
-// Histories whose answers, cards, anchors and ranges are known from model.py.
+// Histories whose answers, cards, anchors and ranges are known from model.py, and the AES calls as
+// it counts them.
 #include "calls.h"
 #include "tests.h"
 
@@ -19,6 +20,12 @@ struct row {
     uint64_t root;
     uint64_t card_digest;
     const char *ranges;
+};
+
+// How many AES calls each accepted call makes at a depth.
+struct aes_calls {
+    unsigned depth;
+    size_t read, write, check, wipe;
 };
 
 #include "known.h"
@@ -91,7 +98,24 @@ static void expect_spent(const struct store *s, enum call call) {
     settle(&o);
 }
 
+// Every depth has its row.
+static void test_aes_calls(void) {
+    const size_t count = sizeof aes_calls / sizeof *aes_calls;
+    expect(count == PAT_MAX_DEPTH, "known.h has the AES calls of %zu depths, and not of all",
+           count);
+    for (size_t k = 0; k < count; k++) {
+        const struct aes_calls *row = &aes_calls[k];
+        const unsigned depth = row->depth;
+        expect(depth == k + 1, "row %zu of known.h has the AES calls of the next depth", k);
+        expect(PAT_AES_READ(depth) == row->read, "the AES calls of a read at depth %u", depth);
+        expect(PAT_AES_WRITE(depth) == row->write, "the AES calls of a write at depth %u", depth);
+        expect(PAT_AES_CHECK(depth) == row->check, "the AES calls of a check at depth %u", depth);
+        expect(PAT_AES_WIPE(depth) == row->wipe, "the AES calls of a wipe at depth %u", depth);
+    }
+}
+
 void test_known(void) {
+    test_aes_calls();
     struct store s = {0};
     for (size_t k = 0; k < sizeof rows / sizeof *rows; k++) {
         char name[64];

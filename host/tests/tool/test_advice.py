@@ -22,10 +22,7 @@ class Advice(ToolCase):
         return card
 
     def write_refused_at(self, card, index):
-        """The definition: both nodes of each level, but not the block itself."""
-        order = [node for inner in card.path(index)[1:] for node in (inner, inner ^ 1)]
-        order.remove(2**card.depth + index)
-        return card.first_wrong(order)
+        return card.first_wrong(card.before_write(index))
 
     def expected(self, card, node, written=None):
         """The advice for a node, from the definition of a write."""

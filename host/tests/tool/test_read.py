@@ -6,7 +6,7 @@ import resource
 import subprocess
 import unittest
 
-from support import DATA, FILE, KEY, TOOL, USAGE, Card, ToolCase, block
+from support import DATA, FILE, KEY, TOOL, USAGE, Card, ToolCase, aes_calls, block
 
 BINARY = bytes(range(192, 256))
 
@@ -177,18 +177,31 @@ class Read(ToolCase):
         report = self.report("check", self.anchor, self.card)
         self.assertEqual((report["nodes"], report["blocks"]), (14, 8))
 
+    def lines_of(self, output):
+        """What show says, by the name at the start of each line."""
+        return {line[:14].strip(): line[14:] for line in output.decode().splitlines()}
+
     def test_show(self):
         for words in ([self.anchor], [self.anchor, self.card]):
-            output = self.accepted("show", *words).decode()
-            lines = {line[:14].strip(): line[14:] for line in output.splitlines()}
+            output = self.accepted("show", *words)
             expected = {"depth": "3", "blocks": "8, numbers 0 to 7", "root nonce T": "15"}
             expected.update({"changes made": "5, writes and wipes together", "card size": "784 bytes"})
-            self.assertEqual(lines, expected)
+            expected["AES calls"] = "read 10, write 32, check 53, wipe 53"
+            self.assertEqual(self.lines_of(output), expected)
             report = self.report("show", *words)
             expected = {"depth": 3, "blocks": 8, "root_nonce": 15, "changes": 5, "card_bytes": 784}
-            self.assertEqual({name: report[name] for name in expected}, expected)
+            expected["aes_calls"] = {"read": 10, "write": 32, "check": 53, "wipe": 53}
+            self.assertEqual({name: report[name] for name in report if name not in ("command", "status", "accepted")}, expected)
             for word in (KEY.hex(), KEY.decode()):
-                self.assertNotIn(word, output + str(report))
+                self.assertNotIn(word, output.decode() + str(report))
+
+    def test_show_tells_the_aes_calls_that_the_model_counts(self):
+        for depth in range(1, 17):
+            self.anchor.write_bytes(KEY + depth.to_bytes(8, "big") + bytes(8))
+            calls = aes_calls(depth)
+            said = self.lines_of(self.accepted("show", self.anchor))["AES calls"]
+            self.assertEqual(said, ", ".join(f"{name} {count}" for name, count in calls.items()))
+            self.assertEqual(self.report("show", self.anchor)["aes_calls"], calls)
 
     def test_show_of_the_last_nonces(self):
         self.put(Card(KEY, 16, 2**64 - 16))
