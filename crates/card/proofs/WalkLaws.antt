@@ -44,7 +44,7 @@ module _ (F : List ℕ → List ℕ) (each : List ℕ → ℕ) (n t : ℕ) (card
     pub found : firstWrong F n t card us ≡ w
     pub took : k ≡ total each (checked F n t card us)
 
-  pub none-walked : Walked [] none 0
+  none-walked : Walked [] none 0
   unfolding firstWrong checked total
   none-walked = record { found = refl; took = refl }
 

@@ -15,7 +15,6 @@ use Rattle.words.proofs.Stores.{sets-append}
 use Rattle.words.proofs.Cases.{below-or-not}
 use Rattle.words.specs.Words.{bytes}
 use Rattle.cmac.specs.Traced.{countUnder}
-use Rattle.cmac.proofs.TraceLaws.{count-bound}
 use Rattle.tree.specs.Numbers.{be8}
 use Rattle.tree.specs.Layout.{IsNode, IsCard, size, offset, label}
 use Rattle.tree.specs.Nodes.{upTo, pathNode, sibling, pair, pairs}
@@ -28,6 +27,7 @@ use Rattle.tree.proofs.NodeLaws.{path-node, path-distinct, pair-parent, pair-no
 use Rattle.tree.proofs.LabelLaws.{Sized, labels-below, labels-sized, new-path, new-leaf, new-off, new-sized}
 use Rattle.tree.proofs.CardLaws.{length-stamped, stamped-append, stamped-more, stamped-keeps}
 use Rattle.tree.proofs.CountLaws.{length-form}
+use Rattle.card.proofs.WalkLaws.{few-calls}
 
 -- Stores
 
@@ -62,7 +62,7 @@ module _ (n t : ℕ) (b : List ℕ) (u : ℕ) where
 -- the message of a label that is no longer than a block takes at most five calls
 few-form : (schedule subkeys x : List ℕ) (p s k : ℕ) → length x ≤ 64 → k ≡ countUnder schedule subkeys (form x (bytes 8 p) s) → k ≤ 5
 few-form schedule subkeys x p s k h e =
-    omega (arith, count-bound schedule subkeys (form x (bytes 8 p) s), length-form x (bytes 8 p) s)
+    few-calls schedule subkeys (form x (bytes 8 p) s) k e (omega (arith, length-form x (bytes 8 p) s))
 
 pub few-put : (schedule subkeys : List ℕ) (n t : ℕ) (b : List ℕ) (u p s k : ℕ) → length b ≡ 64
     → k ≡ countUnder schedule subkeys (form (nonceOrBlock n t b u) (bytes 8 p) s) → k ≤ 5
