@@ -1,5 +1,5 @@
 -- How the code comes to an outcome limit by limit: refused by the first that fails, it makes no call of the cipher.
-use mathlib.Core.Path.{_≡_, refl, sym, ap, _∙_}
+use mathlib.Core.Path.{_≡_, refl, ap}
 use mathlib.Core.List.{List, [], _∷_}
 use mathlib.Core.Option.{Option, none, some}
 use Prim.Native.Nat.{ℕ}
@@ -18,8 +18,9 @@ use Rattle.tree.specs.declared.Refusal.{Refusal}
 use Rattle.tree.specs.declared.Answer.{Answer}
 use Rattle.tree.specs.declared.Answer.the-variants.{Whole, Refused}
 use Rattle.tree.proofs.Answer as T
-use Rattle.tree.proofs.LimitLaws.{stop-first, skip-first, Sound, first-passed}
-use Rattle.tree.proofs.CallLaws.{verdict-whole, format-accept}
+use Rattle.tree.proofs.LimitLaws.{skip-first, Sound, first-passed}
+use Rattle.tree.proofs.CallLaws.{format-accept}
+use Rattle.tree.proofs.AnswerLaws.{refused-first, none-first}
 
 -- what the contract says of a call that answers x and leaves the rest
 abbrev Stays : Anchor → List ℕ → Call → Answer → Type 0
@@ -32,28 +33,33 @@ module _ (a : Anchor) (card : List ℕ) (c : Call) where
   refuses r e =
       rw e (record { gives = record { answered = refl; anchored = refl; left = refl; filled = refl }; counted = refl })
 
-  -- The first limits refuse: the call does. They are passed: its own decide.
+  -- the limits refuse: the call does
+  by-limits : (r : Option Refusal) → firstFailing (limits a card c) ≡ r → OneOf (1 ∷ 2 ∷ []) (tagOf T.the-type (verdict r none))
+      → Stays a card c (verdict r none)
+  by-limits none e k = absurd (miss (1 ∷ 2 ∷ []) 0 tt k)
+  by-limits (some r) e k = refuses r e
 
-  first-refuses : (r : Option Refusal) → firstFailing (firstLimits a (length card)) ≡ r
-      → OneOf (1 ∷ 2 ∷ []) (tagOf T.the-type (verdict r none)) → Stays a card c (verdict r none)
-  unfolding limits
-  first-refuses none e k = absurd (miss (1 ∷ 2 ∷ []) 0 tt k)
-  first-refuses (some r) e k = refuses r (stop-first (firstLimits a (length card)) (ownLimits a c) r e)
+  pub reports-limited : (x : Answer) → x ≡ verdict (firstFailing (limits a card c)) none → OneOf (1 ∷ 2 ∷ []) (tagOf T.the-type x)
+      → Stays a card c x
+  reports-limited x e k = rw e (by-limits (firstFailing (limits a card c)) refl (rw e at k))
+
+  -- The first limits refuse: the call does. They are passed: its own decide.
 
   pub reports-first : (x : Answer) → x ≡ verdict (firstFailing (firstLimits a (length card))) none
       → OneOf (1 ∷ 2 ∷ []) (tagOf T.the-type x) → Stays a card c x
-  reports-first x e k = rw e (first-refuses (firstFailing (firstLimits a (length card))) refl (rw e at k))
+  unfolding limits
+  reports-first x e k = reports-limited x (refused-first (firstLimits a (length card)) (ownLimits a c) x e k) k
 
 module _ (a : Anchor) (card : List ℕ) {x : Answer} (e : x ≡ verdict (firstFailing (firstLimits a (length card))) none) (w : x ≡ Whole) where
-  none-first : firstFailing (firstLimits a (length card)) ≡ none
-  none-first = verdict-whole _ none (sym e ∙ w) .0
+  passed : firstFailing (firstLimits a (length card)) ≡ none
+  passed = none-first (firstLimits a (length card)) e w
 
   pub first-sound : Sound (a .depth) (a .root .0) card
-  first-sound = first-passed a card none-first
+  first-sound = first-passed a card passed
 
   pub own-decide : (c : Call) → firstFailing (limits a card c) ≡ firstFailing (ownLimits a c)
   unfolding limits
-  own-decide c = skip-first (firstLimits a (length card)) (ownLimits a c) none-first
+  own-decide c = skip-first (firstLimits a (length card)) (ownLimits a c) passed
 
 -- Format
 

@@ -96,27 +96,13 @@ pub fn write(
         (outcome (cmacOf (anchor .key)) anchor (now (card .entry)) (write (index .0) (now (block .entry)) (now (ranges .entry))))
         (r .answer) (r .count) (r .anchor) (now (card .exit)) (now (ranges .exit)) ⌝ }
 {
-    let first = limits::first(anchor, card.len());
-    let Answer::Whole = first else {
+    let limited = limits::write(anchor, card.len(), index, block.len(), ranges.len());
+    let Answer::Whole = limited else {
         return Reply {
-            answer: first,
+            answer: limited,
             anchor: anchor,
             count: UNCOUNTED,
         };
-    };
-    let depth = anchor.depth;
-    let Test::Passed = limits::block_number(depth, index) else {
-        return refused(anchor, Refusal::BlockNumber);
-    };
-    let Test::Passed = limits::block_length(block.len()) else {
-        return refused(anchor, Refusal::BlockLength);
-    };
-    let Test::Passed = limits::range_length(depth, ranges.len()) else {
-        return refused(anchor, Refusal::RangeLength);
-    };
-    let root = anchor.root;
-    let Test::Passed = limits::nonces_spent(depth, root) else {
-        return refused(anchor, Refusal::NoncesSpent);
     };
     work::write(anchor, card, index, block, ranges)
 }

@@ -25,11 +25,11 @@ use Rattle.tree.specs.declared.Answer.{Answer}
 use Rattle.tree.specs.declared.limits.Test.{Test}
 use Rattle.tree.specs.declared.limits.Test.the-variants.{Passed, Failed}
 
-was-passed : (b : Bool) {r : Test} → r ≡ passing b → r ≡ Passed → b ≡ true
+pub was-passed : (b : Bool) {r : Test} → r ≡ passing b → r ≡ Passed → b ≡ true
 was-passed true e p = refl
 was-passed false e p = cc
 
-was-failed : (b : Bool) {r : Test} → r ≡ passing b → r ≡ Failed → b ≡ false
+pub was-failed : (b : Bool) {r : Test} → r ≡ passing b → r ≡ Failed → b ≡ false
 was-failed true e p = cc
 was-failed false e p = refl
 

@@ -80,7 +80,7 @@ fn test<'a>(
 }
 
 // The label of the root or of an inner node.
-fn nonce_at(depth: u64, root: Nonce, card: &[u8], node: Node) -> u64
+pub fn nonce_at(depth: u64, root: Nonce, card: &[u8], node: Node) -> u64
     requires { ⌜ IsCard depth (now card) ⌝ }
     requires { ⌜ (1 ≤ node .0) × (node .0 < 2 ^ depth) ⌝ }
     ensures { λ r. ⌜ bytes 8 r ≡ labels depth (root .0) (now (card .entry)) (node .0) ⌝ }

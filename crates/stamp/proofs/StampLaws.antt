@@ -7,9 +7,9 @@ use native.Mathlib.Nat.{add-zero, eq-or-lt-of-le, pow-suc}
 use native.Mathlib.Numerals.{add-one}
 use native.Mathlib.Omega.{arith}
 use borrow.Author.Tests.{lt-ltb, le-ltb}
-use lib.ListN.{length, take, drop, replicate, take-append-drop}
+use lib.ListN.{length, replicate}
 use lib.Pow.{pow-mono}
-use lib.Seq.{sets, sets-eq, take-add}
+use lib.Seq.{sets}
 use Rattle.words.specs.Bytes.{part}
 use Rattle.words.proofs.Stores.{sets-append}
 use Rattle.words.proofs.Cases.{below-or-not}
@@ -20,7 +20,7 @@ use Rattle.tree.specs.Layout.{IsNode, IsCard, size, offset, label}
 use Rattle.tree.specs.Nodes.{upTo, pathNode, sibling, pair, pairs}
 use Rattle.tree.specs.Labels.{Labels, form, message, labels, nonceOrBlock, blankLabels, newLabels}
 use Rattle.tree.specs.Card.{stamp, stamped}
-use Rattle.tree.proofs.ByteLaws.{length-be, part-sets-second}
+use Rattle.tree.proofs.ByteLaws.{length-be, part-sets-second, sets-there}
 use Rattle.tree.proofs.LayoutLaws.{AllNodes, inner, leaf, size-low, length-label, entry-on}
 use Rattle.tree.proofs.NodeLaws.{Off, among, is-among, sibling-half, path-leaf, path-parent, path-level}
 use Rattle.tree.proofs.NodeLaws.{path-node, path-distinct, pair-parent, pair-node, child-off, twin-node}
@@ -30,13 +30,6 @@ use Rattle.tree.proofs.CountLaws.{length-form}
 use Rattle.card.proofs.WalkLaws.{few-calls}
 
 -- Stores
-
--- putting what is there changes nothing
-sets-there : (x c : List ℕ) (o : ℕ) → o + length x ≤ length c → part c o (length x) ≡ x → sets c o x ≡ c
-sets-there x c o h e =
-    let rest = drop (o + length x) c in
-    sets-eq x c o h ∙ ap (λ (z : List ℕ). take o c ++ z ++ rest) (sym e) ∙ ap (λ (z : List ℕ). z ++ rest) (sym (take-add o (length x) c))
-    ∙ take-append-drop (o + length x) c
 
 -- putting y behind x where x is there puts both
 sets-behind : (x y c : List ℕ) (o : ℕ) → o + length x ≤ length c → part c o (length x) ≡ x → sets c (o + length x) y ≡ sets c o (x ++ y)
@@ -189,7 +182,7 @@ module _ (n i : ℕ) (inside : i < 2 ^ n) (y u v : ℕ) (h : y < n) (on : u ≡ 
     abbrev N : Labels
     N = newLabels n (new - n) i b M
 
-    u-label : nonceOrBlock n (new - (y + 1)) b u ≡ newLabels n (new - n) i b M u
+    pub u-label : nonceOrBlock n (new - (y + 1)) b u ≡ newLabels n (new - n) i b M u
     u-label =
         let g : y + 1 ≤ n = omega arith in
         ⊎-elim

@@ -15,9 +15,9 @@ ghost use Rattle.words.specs.Words.{bytes};
 ghost use Rattle.cmac.specs.Context.{IsTable, tagUnder};
 ghost use Rattle.cmac.specs.Traced.{countUnder};
 ghost use Rattle.tree.specs.Layout.{IsNode, IsCard, size, offset, label};
-ghost use Rattle.tree.specs.Nodes.{pairs, allNodes};
-ghost use Rattle.tree.specs.Labels.{form, message, labels, nonceOrBlock, blankLabels, newLabels};
-ghost use Rattle.tree.specs.Card.{blanked, written};
+ghost use Rattle.tree.specs.Nodes.{path, pairs, allNodes};
+ghost use Rattle.tree.specs.Labels.{form, message, nonceOrBlock, blankLabels, writtenLabels};
+ghost use Rattle.tree.specs.Card.{laid, blanked, written};
 ghost use Rattle.tree.specs.Calls.{total};
 
 // Puts the label of a node: the nonce where it is an inner node, the block where it is a leaf.
@@ -157,7 +157,7 @@ pub fn block<'a>(
         ≡ written (tagUnder (now (schedule .entry)) (now (subkeys .entry))) depth t (last .0)
         (now (card .entry)) (index .0) (now (block .entry))) ⌝ }
     ensures { λ r. ⌜ ((t : ℕ) → r ≡ total (countUnder (now (schedule .entry)) (now (subkeys .entry)))
-        (map (message (newLabels depth (last .0) (index .0) (now (block .entry)) (labels depth t (now (card .entry)))))
+        (map (message (writtenLabels depth t (last .0) (now (card .entry)) (index .0) (now (block .entry))))
         (pairs depth (index .0)))) ⌝ }
 {
     let new = last.0 + depth;
@@ -189,4 +189,23 @@ pub fn block<'a>(
         );
     }
     count
+}
+
+// The labels of that write without its tags: each node of the block's path gets its label, and no tag changes.
+pub fn labels(depth: u64, last: Nonce, card: &mut [u8], index: BlockIndex, block: &[u8])
+    requires { ⌜ IsCard depth (now card) ⌝ }
+    requires { ⌜ index .0 < 2 ^ depth ⌝ }
+    requires { ⌜ length (now block) ≡ 64 ⌝ }
+    requires { ⌜ last .0 + depth < 2 ^ 64 ⌝ }
+    ensures { λ _. ⌜ ((t : ℕ) → now (card .exit)
+        ≡ laid depth (writtenLabels depth t (last .0) (now (card .entry)) (index .0) (now (block .entry)))
+        (path depth (index .0)) (now (card .entry))) ⌝ }
+{
+    let root = last.0 + depth;
+    let mut y: u64 = 0;
+    while y < depth {
+        y += 1;
+        let own = path::node(depth, index, y);
+        put_label(depth, card, own, Nonce(root - y), block);
+    }
 }

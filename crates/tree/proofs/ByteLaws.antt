@@ -5,9 +5,9 @@ use mathlib.Core.Logic.{_⊎_, inl, inr, ⊎-elim}
 use Prim.Native.Nat.{ℕ, zero, suc, _+_, _/_, _%_, _^_, _<_, _≤_}
 use native.Mathlib.Nat.{pow-suc}
 use native.Mathlib.Omega.{arith}
-use lib.ListN.{length, take, drop, set, length-append, length-take, length-drop, drop-of-length-le}
+use lib.ListN.{length, take, drop, set, length-append, length-take, length-drop, drop-of-length-le, take-append-drop}
 use lib.Seq.{take-append-seam, drop-append-seam, take-at, drop-at, getD-take, getD-drop, getD-set-other}
-use lib.Seq.{ext-getD, drop-drop, length-take-le, sets, length-sets, sets-eq}
+use lib.Seq.{ext-getD, drop-drop, length-take-le, take-add, sets, length-sets, sets-eq}
 use Rattle.words.specs.Bytes.{at, part}
 use Rattle.words.specs.Words.{bytes}
 use Rattle.tree.specs.Numbers.{be}
@@ -89,3 +89,10 @@ pub sets-whole : (x c : List ℕ) → length c ≡ length x → sets c 0 x ≡ x
 sets-whole x c h =
     let e : length c ≤ 0 + length x = omega arith in
     sets-eq x c 0 (omega arith) ∙ ap (_++_ x) (drop-of-length-le c e) ∙ append-nil x
+
+-- putting what is there changes nothing
+pub sets-there : (x c : List ℕ) (o : ℕ) → o + length x ≤ length c → part c o (length x) ≡ x → sets c o x ≡ c
+sets-there x c o h e =
+    let rest = drop (o + length x) c in
+    sets-eq x c o h ∙ ap (λ (z : List ℕ). take o c ++ z ++ rest) (sym e) ∙ ap (λ (z : List ℕ). z ++ rest) (sym (take-add o (length x) c))
+    ∙ take-append-drop (o + length x) c

@@ -6,13 +6,13 @@ use Prim.Native.Nat.{ℕ, suc, _+_, _<_, _≤_}
 use native.Mathlib.Numerals.{add-one}
 use native.Mathlib.Omega.{arith}
 use lib.ListN.{length, length-append}
-use lib.Seq.{length-sets}
+use lib.Seq.{sets, length-sets}
 use Rattle.words.specs.Bytes.{at, part}
 use Rattle.words.proofs.Cases.{equal-or-not}
 use Rattle.tree.specs.Layout.{IsNode, size, offset, cardLength, label, tag}
 use Rattle.tree.specs.Nodes.{upTo}
 use Rattle.tree.specs.Labels.{Labels, message}
-use Rattle.tree.specs.Card.{stamp, stamped}
+use Rattle.tree.specs.Card.{laid, stamp, stamped}
 use Rattle.tree.proofs.ByteLaws.{at-sets-apart, at-sets-first, part-sets-apart, part-sets-first, part-sets-second}
 use Rattle.tree.proofs.LayoutLaws.{AllNodes, entry-fits, entry-apart}
 use Rattle.tree.proofs.LabelLaws.{Sized}
@@ -58,6 +58,25 @@ module _ (F : List ℕ → List ℕ) (n : ℕ) (L : Labels) where
   stamped-more k f card =
       ap (λ (j : ℕ). stamped F n L (upTo j f) card) (add-one k) ∙ stamped-append (upTo k f) (f (suc k)) card
       ∙ ap (λ (j : ℕ). stamped F n L (f j) (stamped F n L (upTo k f) card)) (sym (add-one k))
+
+-- labels alone
+module _ (n : ℕ) (L : Labels) where
+  pub length-laid : (us card : List ℕ) → length (laid n L us card) ≡ length card
+  unfolding laid
+  length-laid [] card = refl
+  length-laid (u ∷ us) card = length-laid us (sets card (offset n u) (L u)) ∙ length-sets card (offset n u) (L u)
+
+  pub laid-append : (us vs card : List ℕ) → laid n L (us ++ vs) card ≡ laid n L vs (laid n L us card)
+  unfolding laid
+  laid-append [] vs card = refl
+  laid-append (u ∷ us) vs card = laid-append us vs (sets card (offset n u) (L u))
+
+  pub laid-more : (k : ℕ) (f : ℕ → List ℕ) (card : List ℕ)
+      → laid n L (upTo (k + 1) f) card ≡ laid n L (f (k + 1)) (laid n L (upTo k f) card)
+  unfolding upTo
+  laid-more k f card =
+      ap (λ (j : ℕ). laid n L (upTo j f) card) (add-one k) ∙ laid-append (upTo k f) (f (suc k)) card
+      ∙ ap (λ (j : ℕ). laid n L (f j) (laid n L (upTo k f) card)) (sym (add-one k))
 
 -- What they show
 

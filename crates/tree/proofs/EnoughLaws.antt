@@ -22,11 +22,11 @@ use Rattle.tree.specs.declared.Answer.the-variants.{Whole, Wrong}
 
 module _ (F G : List ℕ → List ℕ) where
   -- they agree on a list of messages
-  abbrev Agree : List (List ℕ) → Type 0
+  abbrev pub Agree : List (List ℕ) → Type 0
   Agree ms = (m : List ℕ) → List·Memᴰ m ms → F m ≡ G m
 
   -- along a list of nodes they find the same
-  found-same : (n t : ℕ) (card us : List ℕ) → Agree (checked F n t card us)
+  pub found-same : (n t : ℕ) (card us : List ℕ) → Agree (checked F n t card us)
       → (firstWrong F n t card us ≡ firstWrong G n t card us) × (checked F n t card us ≡ checked G n t card us)
   unfolding firstWrong checked
   found-same n t card [] h = (refl, refl)

@@ -3,6 +3,7 @@ use Prim.Native.Nat.{ℕ}
 use mathlib.Core.Bool.{Bool, true, false}
 use Rattle.tree.specs.declared.Refusal.{Refusal}
 use Rattle.tree.specs.declared.Refusal.the-variants.{Depth, RootNonce, CardLength, BlockNumber, BlockLength, RangeLength, NoncesSpent}
+use Rattle.tree.specs.declared.Refusal.the-variants.{NotAwaited}
 use Rattle.tree.specs.declared.Answer.{Answer}
 use Rattle.tree.specs.declared.Answer.the-variants.{Whole, Wrong, Refused}
 
@@ -14,6 +15,7 @@ refusalNumber BlockNumber = 4
 refusalNumber BlockLength = 5
 refusalNumber RangeLength = 6
 refusalNumber NoncesSpent = 7
+refusalNumber NotAwaited = 9
 
 abbrev pub numberOf : Answer → ℕ
 numberOf Whole = 0

@@ -8,7 +8,7 @@ use mathlib.Core.Option.{Option, none, some}
 use lib.ListN.{length, drop}
 use Rattle.tree.specs.Layout.{label}
 use Rattle.tree.specs.Nodes.{path, pairs, pairsButLeaf, allNodes}
-use Rattle.tree.specs.Labels.{message, labels, blankLabels, newLabels}
+use Rattle.tree.specs.Labels.{message, blankLabels, writtenLabels}
 use Rattle.tree.specs.Card.{blanked, written, firstWrong, checked}
 use Rattle.tree.specs.Ranges.{rangesOf, encode}
 use Rattle.tree.specs.Limits.{Limit, depthLimit, nonceLimit, cardLimit, blockLimit, lengthLimit, rangeLimit, spentLimit, firstFailing}
@@ -50,11 +50,15 @@ renews wipe = true
 abbrev pub firstLimits : Anchor → ℕ → List Limit
 firstLimits a len = depthLimit (a .depth) ∷ nonceLimit (a .depth) (a .root .0) ∷ cardLimit (a .depth) len ∷ []
 
--- the limits that a call tests behind them, in this order
+-- 4 to 7, which a write tests behind them, by the lengths of the block and of the range buffer
+abbrev pub writeLimits : Anchor → ℕ → ℕ → ℕ → List Limit
+writeLimits a i block ranges =
+    blockLimit (a .depth) i ∷ lengthLimit block ∷ rangeLimit (a .depth) ranges ∷ spentLimit (a .depth) (a .root .0) ∷ []
+
+-- the limits that a call tests behind 1, 2 and 3, in this order
 abbrev pub ownLimits : Anchor → Call → List Limit
 ownLimits a (read i buffer) = blockLimit (a .depth) i ∷ lengthLimit (length buffer) ∷ []
-ownLimits a (write i block ranges) =
-    blockLimit (a .depth) i ∷ lengthLimit (length block) ∷ rangeLimit (a .depth) (length ranges) ∷ spentLimit (a .depth) (a .root .0) ∷ []
+ownLimits a (write i block ranges) = writeLimits a i (length block) (length ranges)
 ownLimits a check = []
 ownLimits a wipe = spentLimit (a .depth) (a .root .0) ∷ []
 
@@ -79,9 +83,8 @@ tags n wipe = allNodes n
 abbrev pub tagged : Anchor → List ℕ → Call → List (List ℕ)
 tagged a card (read i buffer) = []
 tagged a card (write i block ranges) =
-    let n = a .depth in
     let t = a .root .0 in
-    map (message (newLabels n t i block (labels n t card))) (tags n (write i block ranges))
+    map (message (writtenLabels (a .depth) t t card i block)) (tags (a .depth) (write i block ranges))
 tagged a card check = []
 tagged a card wipe =
     let n = a .depth in

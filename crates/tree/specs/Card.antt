@@ -1,4 +1,5 @@
--- Cards as format, wipe and write leave them, and tags as read, write and check see them, for any function F that makes a tag of a message.
+-- Cards as format, wipe, write and plan leave them, and tags as read, write and check see them, for any function F that makes a tag of a
+-- message.
 use Prim.Native.Nat.{ℕ}
 use mathlib.Core.Bool.{Bool, cond}
 use mathlib.Core.List.{List, [], _∷_, _++_}
@@ -7,7 +8,12 @@ use lib.Seq.{sets}
 use Rattle.words.specs.Bytes.{same}
 use Rattle.tree.specs.Layout.{offset, tag}
 use Rattle.tree.specs.Nodes.{pairs, allNodes}
-use Rattle.tree.specs.Labels.{Labels, message, labels, blankLabels, newLabels}
+use Rattle.tree.specs.Labels.{Labels, message, labels, blankLabels, writtenLabels}
+
+-- the labels of nodes put in their places, and every tag left as it is
+unfoldable pub laid : ℕ → Labels → List ℕ → List ℕ → List ℕ
+laid n L [] card = card
+laid n L (u ∷ us) card = laid n L us (sets card (offset n u) (L u))
 
 module _ (F : List ℕ → List ℕ) where
   -- the card with node u's label and tag put in its place
@@ -25,7 +31,7 @@ module _ (F : List ℕ → List ℕ) where
 
   -- block i is b; t is the root nonce that the card was read with, and r the last nonce used
   unfoldable pub written : ℕ → ℕ → ℕ → List ℕ → ℕ → List ℕ → List ℕ
-  written n t r card i b = stamped n (newLabels n r i b (labels n t card)) (pairs n i) card
+  written n t r card i b = stamped n (writtenLabels n t r card i b) (pairs n i) card
 
   -- the tag of node u is that of its message
   abbrev pub right : ℕ → ℕ → List ℕ → ℕ → Bool

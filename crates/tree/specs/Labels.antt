@@ -42,3 +42,7 @@ raised n r i L (suc y) = relabel (raised n r i L y) (pathNode n i y) (be8 (r + n
 -- after a write of the block b, r being the last nonce used: u_0 to u_(n-1) have new nonces, and the leaf has the block
 unfoldable pub newLabels : ℕ → ℕ → ℕ → List ℕ → Labels → Labels
 newLabels n r i b L = relabel (raised n r i L n) (pathNode n i n) b
+
+-- the labels of a card after that write; t is the root nonce that it was read with
+abbrev pub writtenLabels : ℕ → ℕ → ℕ → List ℕ → ℕ → List ℕ → Labels
+writtenLabels n t r card i b = newLabels n r i b (labels n t card)

@@ -1,6 +1,6 @@
 -- The tree on the card, in the order of document 01: numbers as bytes, the layout, the nodes, labels and messages, the cards that format,
--- wipe and write leave, the ranges, the limits, what each call does, that a wipe looks at no byte, and that nothing but what is counted is
--- tagged.
+-- wipe and write leave and a write's labels alone, the ranges, the limits, what each call does, that a wipe looks at no byte, and that
+-- nothing but what is counted is tagged.
 pub mod Numbers
 pub mod Layout
 pub mod Nodes

@@ -27,7 +27,7 @@ pub struct Anchor {
     pub root: Nonce,
 }
 
-// Why a call is refused before any tag is looked at, in the order of the papers' numbers, from 1.
+// Why a call is refused, but for a wrong tag, in the order of the papers' numbers: 1 to 7, and 9.
 pub enum Refusal {
     Depth,
     RootNonce,
@@ -36,6 +36,7 @@ pub enum Refusal {
     BlockLength,
     RangeLength,
     NoncesSpent,
+    NotAwaited,
 }
 
 // What a call answers: every tag that it checked is right, and it is accepted; or the first one that is wrong; or a refusal.
@@ -73,6 +74,7 @@ pub fn number(answer: Answer) -> u64
             Refusal::BlockLength => 5,
             Refusal::RangeLength => 6,
             Refusal::NoncesSpent => 7,
+            Refusal::NotAwaited => 9,
         },
     }
 }

@@ -5,11 +5,12 @@ use crate::BlockIndex;
 use crate::Nonce;
 use crate::Refusal;
 ghost use mathlib.Core.Path.{_≡_};
+ghost use mathlib.Core.List.{_++_};
 ghost use mathlib.Core.Option.{none};
 ghost use Prim.Native.Nat.{_≤_, _<_};
 ghost use Rattle.tree.specs.Limits.{depthLimit, nonceLimit, cardLimit, blockLimit, lengthLimit, rangeLimit, spentLimit, firstFailing};
 ghost use Rattle.tree.specs.Tests.{failing};
-ghost use Rattle.tree.specs.Calls.{firstLimits, verdict};
+ghost use Rattle.tree.specs.Calls.{firstLimits, writeLimits, verdict};
 
 // What a test answers.
 pub enum Test {
@@ -110,4 +111,30 @@ pub fn nonces_spent(depth: u64, last: Nonce) -> Test
         return Test::Failed;
     }
     Test::Passed
+}
+
+// 1 to 7 in a row, as a write and a plan test them: whole, or the refusal. `len`, `block` and `ranges` are the lengths of the card, of the
+// new block and of the range buffer.
+pub fn write(anchor: Anchor, len: usize, index: BlockIndex, block: usize, ranges: usize) -> Answer
+    ensures { λ r. ⌜ r ≡ verdict (firstFailing (firstLimits anchor len ++ writeLimits anchor (index .0) block ranges)) none ⌝ }
+{
+    let first = first(anchor, len);
+    let Answer::Whole = first else {
+        return first;
+    };
+    let depth = anchor.depth;
+    let Test::Passed = block_number(depth, index) else {
+        return Answer::Refused(Refusal::BlockNumber);
+    };
+    let Test::Passed = block_length(block) else {
+        return Answer::Refused(Refusal::BlockLength);
+    };
+    let Test::Passed = range_length(depth, ranges) else {
+        return Answer::Refused(Refusal::RangeLength);
+    };
+    let root = anchor.root;
+    let Test::Passed = nonces_spent(depth, root) else {
+        return Answer::Refused(Refusal::NoncesSpent);
+    };
+    Answer::Whole
 }

@@ -1,12 +1,10 @@
--- The first limits refuse, or leave the call's own to decide; of these each that is passed leaves the rest, and one that fails decides.
-use mathlib.Core.Path.{_≡_, sym, _∙_}
-use Prim.Native.Nat.{ℕ}
+use mathlib.Core.Path.{_≡_}
+use mathlib.Core.Option.{none}
 use denote.Ref.{now}
-use lib.ListN.{drop}
 use Rattle.tree.specs.Limits.{firstFailing}
-use Rattle.tree.specs.Calls.{Call, write, ownLimits, limits}
-use Rattle.tree.proofs.LimitLaws.{no-limits, skip, stop, Sound}
-use Rattle.calls.proofs.OutcomeLaws.{refuses, reports-first, first-sound, own-decide}
+use Rattle.tree.specs.Calls.{Call, write, limits, verdict}
+use Rattle.tree.proofs.AnswerLaws.{none-first}
+use Rattle.calls.proofs.OutcomeLaws.{reports-limited}
 use borrow.Author.Needs.{needs}
 use Rattle.calls.proofs.write.Statement.{statement}
 use Rattle.calls.proofs.write.Tie as tie
@@ -14,94 +12,27 @@ use Rattle.calls.proofs.write.Tie as tie
 abbrev call : tie.Start → Call
 call s = write (s .args .index .0) (now (s .args .block)) (now (s .args .ranges))
 
--- the call's own limits from the k-th on decide
-abbrev Left : tie.Start → ℕ → Type 0
-Left s k =
-    firstFailing (limits (s .args .anchor) (now (s .args .card)) (call s)) ≡ firstFailing (drop k (ownLimits (s .args .anchor) (call s)))
-
-abbrev start : tie.After-first → tie.Start
-start c = c .before .before .before .before
-
-sound : (c : tie.After-enum-told) →
-    let s = start (c .before .before) in Sound (s .args .anchor .depth) (s .args .anchor .root .0) (now (s .args .card))
-sound c =
-    let first = c .before .before in
-    first-sound (start first .args .anchor) (now (start first .args .card)) (first .first .ensures) (c .enum-told .given .1)
-
-left0 : (c : tie.After-enum-told) → Left (start (c .before .before)) 0
-left0 c =
-    let first = c .before .before in
-    own-decide (start first .args .anchor) (now (start first .args .card)) (first .first .ensures) (c .enum-told .given .1)
-    (call (start first))
-
-abbrev start1 : tie.After-enum-told2 → tie.Start
-start1 c = start (c .before .before .before .before .before)
-
-left1 : (c : tie.After-enum-told2) → Left (start1 c) 1
-left1 c = left0 (c .before .before .before) ∙ skip _ _ (sym (c .before .before .block-number .ensures) ∙ c .enum-told2 .given .1)
-
-abbrev start2 : tie.After-enum-told4 → tie.Start
-start2 c = start1 (c .before .before .before)
-
-left2 : (c : tie.After-enum-told4) → Left (start2 c) 2
-left2 c = left1 (c .before .before .before) ∙ skip _ _ (sym (c .before .before .block-length .ensures) ∙ c .enum-told4 .given .1)
-
-abbrev start3 : tie.After-enum-told6 → tie.Start
-start3 c = start2 (c .before .before .before)
-
-left3 : (c : tie.After-enum-told6) → Left (start3 c) 3
-left3 c = left2 (c .before .before .before) ∙ skip _ _ (sym (c .before .before .range-length .ensures) ∙ c .enum-told6 .given .1)
-
-left4 : (c : tie.After-enum-told8) → Left (start3 (c .before .before .before .before)) 4
-left4 c = left3 (c .before .before .before .before) ∙ skip _ _ (sym (c .before .before .nonces-spent .ensures) ∙ c .enum-told8 .given .1)
+-- the limits decide
+decided : (c : tie.After-write) →
+    let s = c .before .before .before .before in
+    c .write .result ≡ verdict (firstFailing (limits (s .args .anchor) (now (s .args .card)) (call s))) none
+unfolding limits
+decided c = c .write .ensures
 
 returns : tie.Need-returns
 returns c =
-    let first = c .before in
-    let s = start first in
-    reports-first (s .args .anchor) (now (s .args .card)) (call s) (first .first .result)
-    (first .first .ensures)
-    (c .match .keys2)
+    let s = c .before .before .before .before .before in
+    reports-limited (s .args .anchor) (now (s .args .card)) (call s) _ (decided (c .before)) (c .match .keys2)
 
-returns-2 : tie.Need-returns-2
-returns-2 c =
-    let told = c .before in
-    let s = start (told .before .before .before .before .before) in
-    rw (c .refused .ensures .0, c .refused .ensures .1 .0, c .refused .ensures .1 .1)
-    (refuses (s .args .anchor) (now (s .args .card)) (call s) _
-    (left0 (told .before .before .before) ∙ stop _ _ (sym (told .before .before .block-number .ensures) ∙ told .enum-told3 .given .1)))
-
-returns-3 : tie.Need-returns-3
-returns-3 c =
-    let told = c .before in
-    let s = start1 (told .before .before .before) in
-    rw (c .refused2 .ensures .0, c .refused2 .ensures .1 .0, c .refused2 .ensures .1 .1)
-    (refuses (s .args .anchor) (now (s .args .card)) (call s) _
-    (left1 (told .before .before .before) ∙ stop _ _ (sym (told .before .before .block-length .ensures) ∙ told .enum-told5 .given .1)))
-
-returns-4 : tie.Need-returns-4
-returns-4 c =
-    let told = c .before in
-    let s = start2 (told .before .before .before) in
-    rw (c .refused3 .ensures .0, c .refused3 .ensures .1 .0, c .refused3 .ensures .1 .1)
-    (refuses (s .args .anchor) (now (s .args .card)) (call s) _
-    (left2 (told .before .before .before) ∙ stop _ _ (sym (told .before .before .range-length .ensures) ∙ told .enum-told7 .given .1)))
-
-returns-5 : tie.Need-returns-5
-returns-5 c =
-    let told = c .before in
-    let s = start3 (told .before .before .before .before) in
-    rw (c .refused4 .ensures .0, c .refused4 .ensures .1 .0, c .refused4 .ensures .1 .1)
-    (refuses (s .args .anchor) (now (s .args .card)) (call s) _
-    (left3 (told .before .before .before .before)
-    ∙ stop _ _ (sym (told .before .before .nonces-spent .ensures) ∙ told .enum-told9 .given .1)))
+write-requires : tie.Need-write-requires-2
+write-requires c κs =
+    let told = c .before .before in
+    let test = told .before .before in
+    let s = test .before .before .before .before in
+    none-first (limits (s .args .anchor) (now (s .args .card)) (call s)) (decided test) (told .enum-told .given .1)
 
 pub write-spec : {M : Type 1} → statement M
 write-spec =
     tie.close
     (tie.spec
-    (λ c κs. search needs) (λ c. search needs) returns (λ c κs. sound c .shallow) (λ c. search needs) (λ c. search needs)
-    (λ c κs. search needs) returns-2 (λ c κs. search needs) (λ c. search needs) (λ c. search needs) (λ c κs. search needs) returns-3
-    (λ c κs. sound (c .before .before .before .before .before .before) .shallow) (λ c. search needs) (λ c. search needs)
-    (λ c κs. search needs) returns-4 (λ c κs. search needs) (λ c. search needs) (λ c. search needs) (λ c κs. search needs) returns-5
-    (λ c κs. left4 (c .before .before) ∙ no-limits) (λ c. search needs) (λ c. search needs) (λ c. search needs))
+    (λ c κs. search needs) (λ c. search needs) returns write-requires (λ c. search needs) (λ c. search needs) (λ c. search needs))
