@@ -1,0 +1,13 @@
+pub mod BitLaws
+pub mod ListLaws
+pub mod PlaceLaws
+pub mod MessageLaws
+pub mod StoreLaws
+pub mod LaidLaws
+pub mod TagLaws
+pub mod PlanLaws
+pub mod PutLaws
+pub mod RunLaws
+pub mod TurnLaws
+pub mod OrderLaws
+pub mod RuleLaws
