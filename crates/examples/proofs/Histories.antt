@@ -9,16 +9,20 @@ use Rattle.tree.specs.Numbers.{be}
 use Rattle.tree.specs.Layout.{size, offset, cardLength, label, tag}
 use Rattle.tree.specs.Nodes.{upTo, pathNode, sibling, path, pairs, pairsButLeaf, allNodes}
 use Rattle.tree.specs.Labels.{form, labels, blankLabels, raised, newLabels}
-use Rattle.tree.specs.Card.{stamped, blanked, written, firstWrong}
+use Rattle.tree.specs.Card.{laid, stamped, blanked, written, firstWrong}
 use Rattle.tree.specs.Ranges.{rangesTo, encode}
 use Rattle.tree.specs.Limits.{firstFailing}
 use Rattle.tree.specs.Calls.{Call, read, write, check, wipe, limits, checks, formatAnswer, answerOf, outcome, format}
 use Rattle.tree.specs.declared.Anchor.{Anchor}
 use Rattle.tree.specs.declared.Answer.{Answer}
-use Rattle.tree.specs.declared.Refusal.the-variants.{CardLength}
+use Rattle.tree.specs.declared.Refusal.the-variants.{CardLength, NotAwaited}
 use Rattle.tree.specs.declared.Answer.the-variants.{Whole, Wrong, Refused}
-use Rattle.replay.specs.Array.{zeroed, moved}
-use Rattle.replay.specs.Run.{State, start, next}
+use Rattle.replay.specs.Array.{zeroed, blockAt, moved}
+use Rattle.plan.specs.Places.{planNodes, member, every, placeIn, awaits, fill, full}
+use Rattle.plan.specs.Split.{planned, putAnswer, put}
+use Rattle.plan.specs.Puts.{PutStep, Going, begun, afterPut, afterPuts}
+use Rattle.plan.specs.Orders.{messageFor, inTurn, returned}
+use Rattle.replay.specs.Run.{call, split, State, start, next}
 
 -- sixteen times a checksum
 abbrev sum : List ℕ → ℕ
@@ -50,7 +54,7 @@ pub record History : Type 0 where
 abbrev around : ℕ → State → Call → ℕ → ℕ → ℕ → History
 around n s c i u w =
     let old = s .store .left in
-    let t = next checksum s (record { card = old; call = c }) in
+    let t = next checksum s (call old c) in
     let new = t .store .left in
     let mixed = older n old (older n old new u) w in
     let reading = read i (replicate 64 0) in
@@ -78,7 +82,7 @@ history n i u w = around n (formatted n) (writing n i) i u w
 abbrev pub wipedHistory : ℕ → ℕ → ℕ → ℕ → History
 wipedHistory n i u w =
     let s = formatted n in
-    around n (next checksum s (record { card = s .store .left; call = writing n i })) wipe i u w
+    around n (next checksum s (call (s .store .left) (writing n i))) wipe i u w
 
 -- the call and those on its card are accepted, and the others name these nodes
 abbrev pub refusedAt : List ℕ → ℕ → ℕ → ℕ → ℕ → History
@@ -114,7 +118,7 @@ abbrev altered : List ℕ
 altered = sets (formatted 2 .store .left) (offset 2 7) (1 ∷ [])
 
 abbrev spoiled : State
-spoiled = next checksum (formatted 2) (record { card = altered; call = writing 2 0 })
+spoiled = next checksum (formatted 2) (call altered (writing 2 0))
 
 -- It is accepted, and a check of the card that it left names node 7.
 pub touched-computed : (answer (formatted 2 .store .anchor) altered (writing 2 0) ≡ Whole)
@@ -125,7 +129,7 @@ unfolding start next moved format formatAnswer zeroed limits firstFailing checks
 touched-computed = (refl, refl)
 
 -- A wipe that is refused leaves it so,
-pub refused-computed : let s = next checksum spoiled (record { card = 0 ∷ []; call = wipe }) in
+pub refused-computed : let s = next checksum spoiled (call (0 ∷ []) wipe) in
     (answer (spoiled .store .anchor) (0 ∷ []) wipe ≡ Refused CardLength)
     × (answer (s .store .anchor) (s .store .left) check ≡ Wrong (record { 0 = 7 }))
 unfolding start next moved format formatAnswer zeroed limits firstFailing checks outcome answerOf firstWrong blanked written stamped
@@ -134,9 +138,69 @@ unfolding start next moved format formatAnswer zeroed limits firstFailing checks
 refused-computed = (refl, refl)
 
 -- and one that is accepted mends it.
-pub mended-computed : let s = next checksum spoiled (record { card = spoiled .store .left; call = wipe }) in
+pub mended-computed : let s = next checksum spoiled (call (spoiled .store .left) wipe) in
     answer (s .store .anchor) (s .store .left) check ≡ Whole
 unfolding start next moved format formatAnswer zeroed limits firstFailing checks outcome answerOf firstWrong blanked written stamped
     labels blankLabels newLabels raised allNodes upTo pathNode sibling path pairs pairsButLeaf be size offset label tag form same rangesTo
     encode
 mended-computed = refl
+
+-- A split write, at depth 2: block 2 is planned, and the tags of nodes 6, 3, 2 and 7 come back in this order, the first of them twice.
+
+abbrev order : List ℕ
+order = 6 ∷ 3 ∷ 2 ∷ 7 ∷ []
+
+abbrev tagsBack : List PutStep
+tagsBack =
+    let s = formatted 2 .store in
+    returned checksum (s .anchor) (s .left) 2 newBlock (replicate 32 0) order
+
+-- the put of a tag again, on the card as the first put left it
+abbrev twice : List PutStep → List PutStep
+twice [] = []
+twice (x ∷ xs) =
+    let s = formatted 2 .store in
+    let g = begun (planned checksum (s .anchor) (s .left) 2 newBlock (replicate 32 0)) in
+    x ∷ record { card = afterPut g x .left; node = x .node; tag = x .tag } ∷ xs
+
+abbrev together : State
+together = next checksum (formatted 2) (split (formatted 2 .store .left) 2 newBlock (replicate 32 0) (twice tagsBack))
+
+-- the anchor's root nonce after each of some puts
+abbrev roots : Going → List PutStep → List ℕ
+roots g [] = []
+roots g (x ∷ xs) = afterPut g x .anchor .root .0 ∷ roots (afterPut g x) xs
+
+-- It leaves what the plain write does, the second put of node 6 is refused with 9, and the last put alone brings the new anchor.
+pub split-computed : let s = formatted 2 .store in
+    let o = planned checksum (s .anchor) (s .left) 2 newBlock (replicate 32 0) in
+    let g = begun o in
+    (together .store ≡ next checksum (formatted 2) (call (s .left) (writing 2 2)) .store)
+    × (o .call .answer ≡ Whole)
+    × (roots g (twice tagsBack) ≡ 0 ∷ 0 ∷ 0 ∷ 0 ∷ 2 ∷ [])
+    × (put (s .anchor) (fill 2 (o .plan) 6) (s .left) 6 (replicate 16 0) .answer ≡ Refused NotAwaited)
+unfolding start next moved format formatAnswer zeroed limits firstFailing checks outcome answerOf firstWrong blanked written stamped
+    labels blankLabels newLabels raised allNodes upTo pathNode sibling path pairs pairsButLeaf be size offset label tag form same rangesTo
+    encode planned put putAnswer planNodes member every placeIn awaits fill full laid afterPut afterPuts messageFor inTurn
+split-computed = (refl, refl, refl, refl)
+
+-- The same where somebody altered block 1 between the first put and the second: every put is accepted, and the array has moved once, but a
+-- check of the card after the last put names node 5.
+abbrev meddled : State
+meddled =
+    let s = formatted 2 .store in
+    let o = planned checksum (s .anchor) (s .left) 2 newBlock (replicate 32 0) in
+    let made : ℕ → List ℕ = λ u. checksum (messageFor u (o .messages)) in
+    let g = begun o in
+    let x : PutStep = record { card = g .left; node = 6; tag = made 6 } in
+    let h = afterPut g x in
+    let y : PutStep = record { card = sets (h .left) (offset 2 5) (1 ∷ []); node = 3; tag = made 3 } in
+    next checksum (formatted 2)
+    (split (s .left) 2 newBlock (replicate 32 0) (x ∷ y ∷ inTurn (afterPut h y) made (2 ∷ 7 ∷ [])))
+
+pub meddled-computed : (meddled .store .anchor .root .0 ≡ 2) × (blockAt (meddled .store .array) 2 ≡ newBlock)
+    × (answer (meddled .store .anchor) (meddled .store .left) check ≡ Wrong (record { 0 = 5 }))
+unfolding start next moved format formatAnswer zeroed limits firstFailing checks outcome answerOf firstWrong blanked written stamped
+    labels blankLabels newLabels raised allNodes upTo pathNode sibling path pairs pairsButLeaf be size offset label tag form same rangesTo
+    encode planned put putAnswer planNodes member every placeIn awaits fill full laid afterPut afterPuts messageFor inTurn
+meddled-computed = (refl, refl, refl)

@@ -8,7 +8,7 @@ use Rattle.tree.specs.Calls.{Call, read, write, check, wipe}
 use Rattle.tree.specs.declared.Answer.{Answer}
 use Rattle.tree.specs.declared.Answer.the-variants.{Whole, Wrong, Refused}
 use Rattle.replay.specs.Places.{Place}
-use Rattle.replay.specs.Run.{Step, Store, State, result, next, after}
+use Rattle.replay.specs.Run.{Step, callOf, Store, State, result, next, after}
 use Rattle.replay.specs.Claim.{AcceptedWipe, known, Everywhere, Unwiped}
 use Rattle.replay.proofs.PlaceLaws.{first, later, rest, no-place, at-places}
 
@@ -33,12 +33,12 @@ module _ (F : List ℕ → List ℕ) where
   wipe-or-not wipe = inl refl
 
   wipes-or-not : (s : Store) (x : Step) → AcceptedWipe F s x ⊎ (AcceptedWipe F s x → ⊥)
-  wipes-or-not s x = go (result F s x .answer) refl (wipe-or-not (x .call))
+  wipes-or-not s x = go (result F s x .answer) refl (wipe-or-not (callOf x))
     where
       refused : (o : Answer) → result F s x .answer ≡ o → (o ≡ Whole → ⊥) → AcceptedWipe F s x ⊎ (AcceptedWipe F s x → ⊥)
       refused o e d = inr (λ w. d (subst (λ (a : Answer). a ≡ Whole) e (w .accepted)))
 
-      go : (o : Answer) → result F s x .answer ≡ o → (x .call ≡ wipe) ⊎ (x .call ≡ wipe → ⊥)
+      go : (o : Answer) → result F s x .answer ≡ o → (callOf x ≡ wipe) ⊎ (callOf x ≡ wipe → ⊥)
           → AcceptedWipe F s x ⊎ (AcceptedWipe F s x → ⊥)
       go Whole e (inl i) = inl (record { accepted = e; is-wipe = i })
       go Whole e (inr d) = inr (λ w. d (w .is-wipe))
@@ -88,22 +88,23 @@ module _ (F : List ℕ → List ℕ) where
         none (rest x xs (p .before ++ (p .item ∷ b .between)) q (b .is)) (record { between = b .between; is = refl })
         (subst (λ (l : List Step). AcceptedWipe F (after F s l .store) (q .item)) (b .is) w))
 
-    -- What an accepted wipe makes of any state that is R, and what every call that P holds of keeps, holds after a list on which P holds
-    -- since the last accepted wipe, if it held before.
-    pub kept-since : (R Q : State → Type 0) → ((s : State) (x : Step) → R s → R (next F s x))
-        → ((s : State) (x : Step) → R s → AcceptedWipe F (s .store) x → Q (next F s x))
-        → ((s : State) (x : Step) → Q s → P s x → Q (next F s x))
-        → (xs : List Step) (s : State) → R s → Q s ⊎ Wiped s xs → Since s xs → Q (after F s xs)
+    -- What an accepted wipe makes of any state that is R, and what every step that P holds of keeps, holds after a list on which P holds
+    -- since the last accepted wipe, if it held before. Of every step K is known.
+    pub kept-since : (K : State → Step → Type 0) (R Q : State → Type 0) → ((s : State) (x : Step) → K s x → R s → R (next F s x))
+        → ((s : State) (x : Step) → K s x → R s → AcceptedWipe F (s .store) x → Q (next F s x))
+        → ((s : State) (x : Step) → K s x → Q s → P s x → Q (next F s x))
+        → (xs : List Step) (s : State) → Everywhere F s xs K → R s → Q s ⊎ Wiped s xs → Since s xs → Q (after F s xs)
     unfolding after
-    kept-since R Q steady makes keeps [] s r (inl q) f = q
-    kept-since R Q steady makes keeps [] s r (inr w) f = absurd (no-place (w .place))
-    kept-since R Q steady makes keeps (x ∷ xs) s r o f =
-        kept-since R Q steady makes keeps xs (next F s x) (steady s x r) (go (wiped-or-not xs (next F s x))) (since-later s x xs f)
+    kept-since K R Q steady makes keeps [] s k r (inl q) f = q
+    kept-since K R Q steady makes keeps [] s k r (inr w) f = absurd (no-place (w .place))
+    kept-since K R Q steady makes keeps (x ∷ xs) s k r o f =
+        kept-since K R Q steady makes keeps xs (next F s x) (λ p. k (later x p)) (steady s x (k (first x xs)) r)
+        (go (wiped-or-not xs (next F s x))) (since-later s x xs f)
       where
         now : (Wiped (next F s x) xs → ⊥) → Q s ⊎ Wiped s (x ∷ xs) → Q (next F s x)
-        now none (inl q) = keeps s x q (since-first s x xs f none)
+        now none (inl q) = keeps s x (k (first x xs)) q (since-first s x xs f none)
         now none (inr w) =
-            ⊎-elim (λ (k : AcceptedWipe F (s .store) x). makes s x r k) (λ (k : Wiped (next F s x) xs). absurd (none k))
+            ⊎-elim (λ (h : AcceptedWipe F (s .store) x). makes s x (k (first x xs)) r h) (λ (h : Wiped (next F s x) xs). absurd (none h))
             (wiped-where s x xs w)
 
         go : Wiped (next F s x) xs ⊎ (Wiped (next F s x) xs → ⊥) → Q (next F s x) ⊎ Wiped (next F s x) xs

@@ -1,9 +1,9 @@
 pub mod PlaceLaws
-pub mod Along
 pub mod Core
 pub mod Events
 pub mod Safe
 pub mod Moves
+pub mod Along
 pub mod Steady
 pub mod Agreement
 pub mod Since

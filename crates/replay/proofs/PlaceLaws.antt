@@ -1,5 +1,5 @@
 -- Places in a list.
-use mathlib.Core.Path.{_≡_, refl, ap, ap₂, subst, _∙_}
+use mathlib.Core.Path.{_≡_, refl, sym, ap, ap₂, subst, _∙_}
 use mathlib.Core.List.{List, [], _∷_, _++_, map, map-append, append-assoc}
 use Prim.Native.Nat.{ℕ}
 use native.Mathlib.Omega.{arith}
@@ -23,6 +23,17 @@ module _ {A : Type 0} where
         behind = q .behind ++ (p .item ∷ p .behind);
         is = p .is ∙ ap (λ (l : List A). l ++ (p .item ∷ p .behind)) (q .is)
             ∙ append-assoc (q .before) (q .item ∷ q .behind) (p .item ∷ p .behind);
+      }
+
+  -- a place behind a place
+  abbrev pub farther : {xs : List A} (p : Place xs) → Place (p .behind) → Place xs
+  farther p q =
+      record {
+        before = p .before ++ (p .item ∷ q .before);
+        item = q .item;
+        behind = q .behind;
+        is = p .is ∙ ap (λ (l : List A). p .before ++ (p .item ∷ l)) (q .is)
+            ∙ sym (append-assoc (p .before) (p .item ∷ q .before) (q .item ∷ q .behind));
       }
 
   -- the last

@@ -13,13 +13,14 @@ use Rattle.tree.specs.Numbers.{be8}
 use Rattle.tree.specs.Layout.{IsNode, cardLength, label}
 use Rattle.tree.specs.Nodes.{pathNode, pairs, allNodes}
 use Rattle.tree.specs.Labels.{Labels, message, labels, blankLabels, newLabels}
-use Rattle.tree.specs.Card.{blanked, written}
-use Rattle.tree.proofs.NodeLaws.{path-root, path-leaf, path-parent, path-node, Off, pairs-child, child-node, path-pairs, inner-not-leaf}
-use Rattle.tree.proofs.NodeLaws.{among-node}
+use Rattle.tree.specs.Card.{blanked}
+use Rattle.tree.proofs.NodeLaws.{path-root, path-leaf, path-parent, path-node, Off, Child, pairs-child, child-pairs, child-node}
+use Rattle.tree.proofs.NodeLaws.{path-pairs, inner-not-leaf, among-node}
 use Rattle.tree.proofs.LabelLaws.{Sized, message-same, labels-root, labels-below, labels-sized, blank-root, blank-leaf, blank-sized}
 use Rattle.tree.proofs.LabelLaws.{new-root, new-same, new-sized, new-block}
-use Rattle.tree.proofs.WriteLaws.{blanked-message, written-message}
+use Rattle.tree.proofs.WriteLaws.{blanked-message}
 use Rattle.replay.specs.Array.{Array, zeroed, blockAt}
+use Rattle.replay.specs.Tagged.{WriteTags}
 use Rattle.replay.proofs.Core.{Event, Below, AllBelow, AllVouch, AllNonced, Vouches, Says, raise, down, says-below}
 use Rattle.replay.proofs.Core.{event-old, event-new, renewed-old, event-nonced}
 use Rattle.replay.proofs.Events.{frame, blank-nonced, blank-event, child-nonced, write-event}
@@ -125,29 +126,25 @@ module _ {n H : ℕ} {M : List (List ℕ)} {t : ℕ} {array : Array} (p : Backs 
   pub check-same : ((w : ℕ) → IsNode n w → Tagged w) → 1 ≤ n → (i : ℕ) → i < 2 ^ n → label n card (2 ^ n + i) ≡ blockAt array i
   check-same all deep i inside = read-same i inside (λ y h l. all (pathNode n i y) (path-node n i inside y h l)) deep
 
--- After a write: t is the root nonce that the card was read with, and r the last nonce used
+-- After a write: t is the root nonce that the card was read with, r the last nonce used, and new the messages that it tags
 
-module _ (F : List ℕ → List ℕ) (F16 : (m : List ℕ) → length (F m) ≡ 16) (n : ℕ) (deep : 1 ≤ n) (t r : ℕ) (card : List ℕ)
-    (full : length card ≡ cardLength n) (i : ℕ) (inside : i < 2 ^ n) (b : List ℕ) (long : length b ≡ 64) where
-  abbrev new : List (List ℕ)
-  new = map (message (labels n (r + n) (written F n t r card i b))) (pairs n i)
-
+module _ (n : ℕ) (deep : 1 ≤ n) (t r : ℕ) (card : List ℕ) (full : length card ≡ cardLength n) (i : ℕ) (inside : i < 2 ^ n) (b : List ℕ)
+    (long : length b ≡ 64) (new : List (List ℕ)) (named : (m : List ℕ) → List·Memᴰ m new → WriteTags n t r card i b m) where
   -- where labels agree with the card's off the path, the write's messages are those of the same write on them
   says-under : (J : Labels) → ((w : ℕ) → List·Memᴰ w (pairs n i) → Off n i inside n w → labels n t card w ≡ J w)
       → (m : List ℕ) → List·Memᴰ m new → Says (frame n) (suc r) (suc (r + n)) (newLabels n r i b J) m
   says-under J keeps m h =
-      let k = Memᴰ·of-map (message (labels n (r + n) (written F n t r card i b))) (pairs n i) h in
-      let w = k .0 in
-      let c = pairs-child n i inside w (k .1) in
-      let node = child-node n i inside w c in
+      let k = named m h in
+      let w = k .node in
+      let c : Child n i inside w = record { level = k .level; high = k .high; is = k .child } in
       let L = labels n t card in
       record {
         node = w;
-        is-node = node;
+        is-node = child-node n i inside w c;
         fresh = child-nonced n r i b inside J w c;
-        is = sym (k .2) ∙ written-message F F16 n deep t r card i b full inside long w node
+        is = k .is
             ∙ message-same (newLabels n r i b L) (newLabels n r i b J) w
-            (new-same n r i b inside L J w (keeps w (k .1)))
+            (new-same n r i b inside L J w (keeps w (child-pairs n i inside w c)))
             (new-same n r i b inside L J (w / 2) (λ f. absurd (f (c .level) (omega (arith, c .high)) (c .is))));
       }
 

@@ -7,11 +7,13 @@ use lib.ListN.{length, length-set}
 use Rattle.tree.specs.Nodes.{allNodes}
 use Rattle.tree.specs.Labels.{message, labels}
 use Rattle.tree.specs.Card.{blanked}
-use Rattle.tree.specs.Calls.{Call, write, wipe, answerOf}
+use Rattle.tree.specs.Calls.{write, wipe, answerOf}
 use Rattle.tree.specs.declared.Answer.the-variants.{Whole}
 use Rattle.tree.proofs.CallLaws.{accepted}
 use Rattle.replay.specs.Array.{zeroed}
-use Rattle.replay.specs.Run.{Step, State, next, after}
+use Rattle.replay.specs.Run.{Step, cardOf, State, next, after}
+use Rattle.replay.specs.Claim.{Complete, AllComplete}
+use Rattle.replay.proofs.PlaceLaws.{first, later}
 use Rattle.replay.proofs.Core.{AllBelow, raise, all-below}
 use Rattle.replay.proofs.Events.{frame}
 use Rattle.replay.proofs.Safe.{Backs, blank-backs, write-below}
@@ -45,23 +47,25 @@ module _ (F : List ℕ → List ℕ) (F16 : (m : List ℕ) → length (F m) ≡ 
         (blank-backs F F16 n (ok .sound .deep) (t + n) (ok .unspent) card (ok .sound .full) (s .tagged)
         (λ m h. raise (frame n) {m = m} (omega (arith, ok .sound .deep)) (k .below m h)))
 
-  pub steady-next : (s : State) (x : Step) → Steady s → Steady (next F s x)
-  steady-next s x k = go (x .card) (x .call) (move F s (x .card) (x .call))
+  pub steady-next : (s : State) (x : Step) → Complete F (s .store) x → Steady s → Steady (next F s x)
+  steady-next s x complete k = go (move F F16 s x complete)
     where
-      go : (card : List ℕ) (c : Call) → Move F s card c → Steady (next F s (record { card = card; call = c }))
-      go card c (still e) = subst Steady (sym e) k
-      go card c (wrote-block i block ranges e q) =
+      go : Move F s x → Steady (next F s x)
+      go (still e f) = subst Steady (sym e) k
+      go (wrote-block i block ranges w) =
           let n = s .store .anchor .depth in
           let t = s .store .anchor .root .0 in
-          let ok = accepted F (s .store .anchor) card (write i block ranges) e .limits-passed in
-          subst Steady (sym q) (record {
+          let ok = accepted F (s .store .anchor) (cardOf x) (write i block ranges) (w .whole) .limits-passed in
+          subst Steady (sym (w .is)) (record {
             below =
-                write-below F F16 n (ok .sound .deep) t t card (ok .sound .full) i (ok .inside) block (ok .long) (ok .unspent) (k .below);
+                write-below n (ok .sound .deep) t t (cardOf x) (ok .sound .full) i (ok .inside) block (ok .long) (w .new) (w .named)
+                (ok .unspent) (k .below);
             count = length-set (s .store .array) i block ∙ k .count;
           })
-      go card c (wiped-card e q) = subst Steady (sym q) (safe-steady (wiped F s card) (wipe-safe s card k e))
+      go (wiped-card i e q) = subst Steady (sym q) (safe-steady (wiped F s (cardOf x)) (wipe-safe s (cardOf x) k e))
 
-  pub steady-after : (xs : List Step) (s : State) → Steady s → Steady (after F s xs)
+  pub steady-after : (xs : List Step) (s : State) → AllComplete F s xs → Steady s → Steady (after F s xs)
   unfolding after
-  steady-after [] s k = k
-  steady-after (x ∷ xs) s k = steady-after xs (next F s x) (steady-next s x k)
+  steady-after [] s complete k = k
+  steady-after (x ∷ xs) s complete k =
+      steady-after xs (next F s x) (λ p. complete (later x p)) (steady-next s x (complete (first x xs)) k)

@@ -3,3 +3,4 @@ pub mod Rules
 pub mod ReadRule
 pub mod WipeRule
 pub mod CountRule
+pub mod SplitRule
