@@ -18,6 +18,7 @@ use Rattle.tree.specs.Calls.{formatAnswer, formatCard, format}
 use Rattle.tree.specs.declared.Anchor.{Anchor}
 use Rattle.tree.specs.declared.Refusal.{Refusal}
 use Rattle.tree.specs.declared.Refusal.the-variants.{Depth, RootNonce, CardLength, BlockNumber, BlockLength, RangeLength, NoncesSpent}
+use Rattle.tree.specs.declared.Refusal.the-variants.{NotAwaited}
 use Rattle.tree.specs.declared.Answer.{Answer}
 use Rattle.tree.specs.declared.Answer.the-variants.{Whole, Wrong, Refused}
 use Rattle.tree.proofs.ByteLaws.{length-be}
@@ -48,7 +49,7 @@ module _ (s : List ℕ) (long : length s ≡ anchorBytes) (t : ℕ) where
   put-root : part (take 24 s ++ be8 t) 24 8 ≡ be8 t
   put-root = ap (take 8) (drop-at (take 24 s) (be8 t) 24 front) ∙ take-all 8 (be8 t) (omega (arith, length-be 8 t))
 
-  put-stands : t < 2 ^ 64 → Stands (take 24 s ++ be8 t) (rooted (anchorOf s) t)
+  pub put-stands : t < 2 ^ 64 → Stands (take 24 s ++ be8 t) (rooted (anchorOf s) t)
   unfolding anchorOf
   put-stands h = record { long = put-long; is = same put-key (ap number put-depth) (ap number put-root ∙ number-be 8 t (omega arith)) }
     where
@@ -67,6 +68,7 @@ refusal-number BlockNumber e = omega arith
 refusal-number BlockLength e = omega arith
 refusal-number RangeLength e = omega arith
 refusal-number NoncesSpent e = omega arith
+refusal-number NotAwaited e = omega arith
 
 -- 0 says accepted
 pub code-whole : (x : Answer) → codeOf x ≡ 0 → x ≡ Whole
@@ -96,7 +98,7 @@ pub record Leaves (card lent : List ℕ) (o : Outcome) : Type 0 where
   pub card-kept : (o .answer ≡ Whole → ⊥) → o .card ≡ card
   pub lent-kept : (o .answer ≡ Whole → ⊥) → o .lent ≡ lent
 
-outcome-leaves : (F : List ℕ → List ℕ) (a : Anchor) (card : List ℕ) (c : Call) → Leaves card (lentTo c) (outcome F a card c)
+pub outcome-leaves : (F : List ℕ → List ℕ) (a : Anchor) (card : List ℕ) (c : Call) → Leaves card (lentTo c) (outcome F a card c)
 unfolding outcome
 outcome-leaves F a card c = go (answerOf F a card c)
   where

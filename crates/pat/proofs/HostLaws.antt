@@ -1,12 +1,13 @@
 -- From the contract of a call of the tree to that of its function for C.
 use mathlib.Core.Path.{_≡_, refl, sym, ap, _∙_}
 use mathlib.Core.Bool.{Bool, true, false, cond, _&&_}
-use mathlib.Core.List.{List, [], _∷_, _++_}
-use Prim.Native.Nat.{ℕ, zero, suc, _+_, _*_, _/_, _%_, _^_, _<_}
+use mathlib.Core.List.{List, [], _∷_, _++_, append-nil}
+use Prim.Native.Nat.{ℕ, zero, suc, _+_, _*_, _/_, _%_, _^_, _<_, _≤_}
 use native.Mathlib.Nat.{pow-suc, mul-assoc}
 use native.Mathlib.Omega.{arith}
 use borrow.Author.Tests.{eq-eqb, ne-eqb}
-use lib.ListN.{length, take, length-append}
+use lib.ListN.{length, take, length-append, drop-of-length-le}
+use lib.Seq.{sets, sets-eq}
 use Rattle.cmac.specs.Cmac.{cmacOf}
 use Rattle.tree.specs.Numbers.{be, be8}
 use Rattle.tree.specs.Answer.{isWhole}
@@ -34,6 +35,12 @@ number-be zero x h = omega arith
 number-be (suc k) x h =
     let p = pow-suc 256 k in
     number-snoc (be k (x / 256)) (x % 256) ∙ omega (arith, number-be k (x / 256) (omega arith))
+
+-- eight bytes stored at the end
+pub sets-end : (s x : List ℕ) (k : ℕ) → length s ≡ k + 8 → length x ≡ 8 → sets s k x ≡ take k s ++ x
+sets-end s x k h l =
+    let e : length s ≤ k + length x = omega arith in
+    sets-eq x s k (omega arith) ∙ ap (_++_ (take k s ++ x)) (drop-of-length-le s e) ∙ append-nil (take k s ++ x)
 
 -- Lengths
 

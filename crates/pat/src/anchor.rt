@@ -2,15 +2,17 @@
 use tree::Anchor;
 use tree::Nonce;
 ghost use mathlib.Core.Path.{_≡_};
+ghost use mathlib.Core.Bool.{cond};
 ghost use mathlib.Core.List.{_++_};
 ghost use Prim.Native.Nat.{_+_, _≤_};
+ghost use lib.Dec.{eqb};
 ghost use lib.ListN.{length, take};
 ghost use Rattle.words.specs.Bytes.{part};
 ghost use Rattle.tree.specs.Numbers.{be8};
 ghost use Rattle.pat.specs.Host.{anchorBytes, number, anchorOf};
 
 // The number in eight bytes from one of them on.
-fn number_at(bytes: &[u8], start: usize) -> u64
+pub(crate) fn number_at(bytes: &[u8], start: usize) -> u64
     requires { ⌜ start + 8 ≤ length (now bytes) ⌝ }
     ensures { λ r. ⌜ r ≡ number (part (now (bytes .entry)) start 8) ⌝ }
 {
@@ -38,4 +40,15 @@ pub(crate) fn put_root(bytes: &mut [u8], root: Nonce)
     ensures { λ _. ⌜ now (bytes .exit) ≡ take 24 (now (bytes .entry)) ++ be8 (root .0) ⌝ }
 {
     words::put_double_word(bytes, 24, tree::numbers::be8(root.0));
+}
+
+// The same where the root nonce has moved from another.
+pub(crate) fn put_moved(bytes: &mut [u8], from: Nonce, root: Nonce)
+    requires { ⌜ length (now bytes) ≡ anchorBytes ⌝ }
+    ensures { λ _. ⌜ now (bytes .exit)
+        ≡ cond (eqb (root .0) (from .0)) (now (bytes .entry)) (take 24 (now (bytes .entry)) ++ be8 (root .0)) ⌝ }
+{
+    if root.0 != from.0 {
+        put_root(bytes, root);
+    }
 }

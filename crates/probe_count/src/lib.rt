@@ -1,5 +1,5 @@
 // The calls' counts, for tests in other languages. A slice passes as a pointer and a length. Each function makes the call with the anchor's
-// three parts and answers the count; a key that has not 16 bytes gets 0, and then it changes nothing.
+// three parts and answers the count; a key that has not 16 bytes gets 0, and then it changes nothing; so do messages that have not 656.
 use tree::Anchor;
 use tree::BlockIndex;
 use tree::Nonce;
@@ -7,7 +7,10 @@ ghost use mathlib.Core.Path.{_≡_};
 ghost use mathlib.Core.List.{[]};
 ghost use lib.ListN.{length};
 ghost use Rattle.tree.specs.Calls.{read, write, check, wipe};
-ghost use Rattle.probe_count.specs.Counted.{anchorOf, Counted};
+ghost use Rattle.probe_count.specs.Counted.{anchorOf, Counted, CountedPlan};
+
+// How many bytes a plan's messages take at every depth.
+const MESSAGE_ROOM: usize = 656;
 
 // A read's.
 #[no_mangle]
@@ -78,6 +81,38 @@ pub extern "C" fn probe_count_wipe(key: &[u8], depth: u64, root: u64, card: &mut
     }
     let reply = calls::wipe(anchor(key, depth, root), card);
     reply.count
+}
+
+// A plan's. A buffer for its messages that has not their room gets 0 too.
+#[no_mangle]
+pub extern "C" fn probe_count_plan(
+    key: &[u8],
+    depth: u64,
+    root: u64,
+    card: &mut [u8],
+    index: u64,
+    block: &[u8],
+    ranges: &mut [u8],
+    messages: &mut [u8],
+) -> u64
+    ensures { λ r. ⌜ CountedPlan (now (key .entry)) depth root (now (card .entry)) index (now (block .entry)) (now (ranges .entry))
+        (now (messages .entry)) r (now (card .exit)) (now (ranges .exit)) (now (messages .exit)) ⌝ }
+{
+    if key.len() != 16 {
+        return 0;
+    }
+    if messages.len() != MESSAGE_ROOM {
+        return 0;
+    }
+    let planned = split::plan_in(
+        anchor(key, depth, root),
+        card,
+        BlockIndex(index),
+        block,
+        ranges,
+        messages,
+    );
+    planned.count
 }
 
 // The anchor of its parts.
