@@ -25,6 +25,7 @@ fn run(plot: Option<&str>) -> Result<(), String> {
     std::env::remove_var(child::VARIABLE);
     eprintln!("Measuring takes about two minutes.");
     let (mut rows, mut results) = (chains::measure()?, calls::measure()?);
+    let splits = calls::split::measure()?;
     let pairs = calls::before::measure()?;
     let pace = clock::best_pace();
     let figures = rows.iter_mut().flat_map(|row| &mut row.figures);
@@ -37,6 +38,7 @@ fn run(plot: Option<&str>) -> Result<(), String> {
     println!("multiple of the proved code's time.\n");
     chains::print(&rows);
     calls::print(&results, plot.map(Path::new))?;
+    calls::split::print(&splits, pace);
     calls::before::print(&pairs, pace);
     Ok(())
 }

@@ -11,8 +11,8 @@ pub mod paths;
 pub mod ranges;
 mod words;
 
-pub use calls::{check, format, read, wipe, write};
-pub use words::{Anchor, Answer, BlockIndex, Counted, Node, Nonce, Refusal};
+pub use calls::{check, format, plan, put_tag, read, wipe, write};
+pub use words::{Anchor, Answer, BlockIndex, Counted, Node, Nonce, Plan, Planned, Refusal};
 
 #[cfg(test)]
 mod counts;
@@ -20,5 +20,7 @@ mod counts;
 mod errors;
 #[cfg(test)]
 mod rows;
+#[cfg(test)]
+mod splits;
 #[cfg(test)]
 mod wipes;

@@ -3,7 +3,9 @@
 use crate::cards;
 use crate::counted::{self, Made};
 use crate::guarded::Guarded;
+use crate::support::hex;
 use bindings::pat;
+use reference::tree::layout::TAG_BYTES;
 use reference::{host, tree};
 
 /// Which of the calls.
@@ -14,18 +16,22 @@ pub enum Kind {
     Write,
     Check,
     Wipe,
+    Plan,
+    Put,
 }
 
 impl Kind {
-    pub const ALL: [Kind; 5] = [
+    pub const ALL: [Kind; 7] = [
         Kind::Format,
         Kind::Read,
         Kind::Write,
         Kind::Check,
         Kind::Wipe,
+        Kind::Plan,
+        Kind::Put,
     ];
 
-    /// Whether the call, once accepted, moves the root nonce on.
+    /// Whether the call alone, once accepted, moves the root nonce on.
     pub fn moves(self) -> bool {
         matches!(self, Kind::Write | Kind::Wipe)
     }
@@ -38,9 +44,16 @@ pub struct Call {
     pub anchor: Vec<u8>,
     pub card: Vec<u8>,
     pub index: u64,
-    /// The buffer of a read, the new block of a write.
+    /// The buffer of a read, the new block of a write or a plan.
     pub block: Vec<u8>,
     pub ranges: Vec<u8>,
+    /// What a plan fills, and a put goes on with.
+    pub plan: Vec<u8>,
+    /// The messages of a plan.
+    pub messages: Vec<u8>,
+    /// Where a put puts its tag.
+    pub node: u64,
+    pub tag: Vec<u8>,
 }
 
 /// The answer in its two parts: 0 or the refusal's number, and the node that refusal 8 names.
@@ -96,6 +109,10 @@ impl Call {
             index: 0,
             block: Vec::new(),
             ranges: Vec::new(),
+            plan: Vec::new(),
+            messages: Vec::new(),
+            node: 0,
+            tag: Vec::new(),
         }
     }
 
@@ -105,20 +122,30 @@ impl Call {
         let mut card = Guarded::holding(&self.card);
         let mut block = Guarded::holding(&self.block);
         let mut ranges = Guarded::holding(&self.ranges);
+        let mut plan = Guarded::holding(&self.plan);
+        let mut messages = Guarded::holding(&self.messages);
+        let mut tag = Guarded::holding(&self.tag);
         let word = {
-            let (anchor, card) = (anchor.part(), card.part());
+            let (anchor, card, index) = (anchor.part(), card.part(), self.index);
+            let (block, ranges) = (block.part(), ranges.part());
+            let (plan, messages) = (plan.part(), messages.part());
             match self.kind {
                 Kind::Format => pat::format(anchor, card),
-                Kind::Read => pat::read(anchor, card, self.index, block.part()),
-                Kind::Write => pat::write(anchor, card, self.index, block.part(), ranges.part()),
+                Kind::Read => pat::read(anchor, card, index, block),
+                Kind::Write => pat::write(anchor, card, index, block, ranges),
                 Kind::Check => pat::check(anchor, card),
                 Kind::Wipe => pat::wipe(anchor, card),
+                Kind::Plan => pat::plan(anchor, card, index, block, ranges, plan, messages),
+                Kind::Put => pat::put_tag(anchor, plan, card, self.node, tag.part()),
             }
         };
         self.anchor = anchor.into_part("anchor");
         self.card = card.into_part("card");
         self.block = block.into_part("block");
         self.ranges = ranges.into_part("ranges");
+        self.plan = plan.into_part("plan");
+        self.messages = messages.into_part("messages");
+        self.tag = tag.into_part("tag");
         Answer::of(word)
     }
 
@@ -126,31 +153,48 @@ impl Call {
     pub fn reference(&mut self) -> Answer {
         let (anchor, card) = (&mut self.anchor, &mut self.card);
         let (block, ranges) = (&mut self.block, &mut self.ranges);
+        let (plan, messages) = (&mut self.plan, &mut self.messages);
+        let index = self.index;
         Answer::of(match self.kind {
             Kind::Format => host::pat_format(anchor, card),
-            Kind::Read => host::pat_read(anchor, card, self.index, block),
-            Kind::Write => host::pat_write(anchor, card, self.index, block, ranges),
+            Kind::Read => host::pat_read(anchor, card, index, block),
+            Kind::Write => host::pat_write(anchor, card, index, block, ranges),
             Kind::Check => host::pat_check(anchor, card),
             Kind::Wipe => host::pat_wipe(anchor, card),
+            Kind::Plan => host::pat_plan(anchor, card, index, block, ranges, plan, messages),
+            Kind::Put => host::pat_put_tag(anchor, plan, card, self.node, &self.tag),
         })
     }
 
-    /// Whether the call carries a count: a format does not, and no call gets at its anchor in bytes of another length.
+    /// Whether the buffers that only C has are of their lengths; another one is refused 5 before the rest.
+    pub fn lengths_fit(&self) -> bool {
+        let plan = self.plan.len() == host::PLAN_BYTES;
+        self.anchor.len() == host::ANCHOR_BYTES
+            && match self.kind {
+                Kind::Plan => plan && self.messages.len() == host::MESSAGES_BYTES,
+                Kind::Put => plan && self.tag.len() == TAG_BYTES,
+                _ => true,
+            }
+    }
+
+    /// Whether the call carries a count: a format and a put do not, and no call gets at buffers of another length.
     pub fn carries(&self) -> bool {
-        self.kind != Kind::Format && self.anchor.len() == host::ANCHOR_BYTES
+        !matches!(self.kind, Kind::Format | Kind::Put) && self.lengths_fit()
     }
 
     /// Makes the call with its count, in the reference and through the probe.
     pub fn counted(&mut self) -> Made {
         assert!(self.carries(), "no count: {}", self.short());
-        let anchor = &cards::parsed(&self.anchor);
+        let (anchor, index) = (&cards::parsed(&self.anchor), self.index);
         let (card, block, ranges) = (&mut self.card, &mut self.block, &mut self.ranges);
+        let (plan, messages) = (&mut self.plan, &mut self.messages);
         let made = match self.kind {
-            Kind::Format => unreachable!("it carries none"),
-            Kind::Read => counted::read(anchor, card, self.index, block),
-            Kind::Write => counted::write(anchor, card, self.index, block, ranges),
+            Kind::Format | Kind::Put => unreachable!("it carries none"),
+            Kind::Read => counted::read(anchor, card, index, block),
+            Kind::Write => counted::write(anchor, card, index, block, ranges),
             Kind::Check => counted::check(anchor, card),
             Kind::Wipe => counted::wipe(anchor, card),
+            Kind::Plan => counted::plan(anchor, card, index, block, ranges, plan, messages),
         };
         if let tree::Answer::Accepted(after) = made.0.answer {
             self.anchor = cards::anchor(&after.key, after.depth, after.root);
@@ -194,27 +238,43 @@ impl Call {
             ("card", &self.card, &expected.card),
             ("block", &self.block, &expected.block),
             ("ranges", &self.ranges, &expected.ranges),
+            ("plan", &self.plan, &expected.plan),
+            ("messages", &self.messages, &expected.messages),
+            ("tag", &self.tag, &expected.tag),
         ];
-        for (name, is, wanted) in parts {
-            assert_eq!(is.len(), wanted.len(), "{what}: length of {name}");
-            let differs = is.iter().zip(wanted).position(|(is, wanted)| is != wanted);
-            if let Some(at) = differs {
-                let (is, wanted) = (is[at], wanted[at]);
-                panic!("{what}: byte {at} of {name} is {is:02x} and not {wanted:02x}");
-            }
-        }
+        let differing = parts.into_iter().find(|(_, is, wanted)| is != wanted);
+        let Some((name, is, wanted)) = differing else {
+            return;
+        };
+        assert_eq!(is.len(), wanted.len(), "{what}: length of {name}");
+        let differs = is.iter().zip(wanted).position(|(is, wanted)| is != wanted);
+        let at = differs.expect("a byte that differs");
+        let (is, wanted) = (is[at], wanted[at]);
+        panic!("{what}: byte {at} of {name} is {is:02x} and not {wanted:02x}");
     }
 
     /// The call in one line.
     pub fn short(&self) -> String {
-        format!(
-            "{:?} of block {}, anchor {}, lengths of card {}, block {}, ranges {}",
-            self.kind,
-            self.index,
-            crate::support::hex(&self.anchor),
-            self.card.len(),
-            self.block.len(),
-            self.ranges.len()
-        )
+        let common = format!(
+            "anchor {}, card of {} bytes",
+            hex(&self.anchor),
+            self.card.len()
+        );
+        match self.kind {
+            Kind::Put => format!(
+                "Put at node {}, plan {}, tag {}, {common}",
+                self.node,
+                hex(&self.plan),
+                hex(&self.tag)
+            ),
+            kind => format!(
+                "{kind:?} of block {}, {common}, lengths of block {}, ranges {}, plan {}, messages {}",
+                self.index,
+                self.block.len(),
+                self.ranges.len(),
+                self.plan.len(),
+                self.messages.len()
+            ),
+        }
     }
 }

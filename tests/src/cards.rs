@@ -9,7 +9,7 @@ pub fn anchor(key: &[u8; 16], depth: u64, root: u64) -> Vec<u8> {
 }
 
 /// The 8 bytes at that place as a number.
-fn number(bytes: &[u8], at: usize) -> u64 {
+pub fn number(bytes: &[u8], at: usize) -> u64 {
     let eight = bytes[at..at + 8].try_into().expect("eight bytes");
     u64::from_be_bytes(eight)
 }

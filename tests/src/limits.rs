@@ -1,73 +1,159 @@
 //! Calls in which chosen tests fail, each in one of several ways, and the answer that the order of the tests demands.
 
 use crate::call::{Answer, Call, Kind};
-use crate::cards;
 use crate::list::List;
 use crate::random::Random;
+use crate::{cards, plans};
 use reference::tree::{layout, paths, BlockIndex, Node};
 
-/// The test of the anchor's length, which comes before the rest and answers 5.
-pub const ANCHOR: u64 = 0;
+/// What a call tests, in the order in which all calls do.
+#[derive(Clone, Copy, Debug, PartialEq, Eq, PartialOrd, Ord)]
+pub enum Test {
+    /// The lengths of what only C has in bytes come before the rest, and each answers 5.
+    AnchorLength,
+    PlanLength,
+    MessagesLength,
+    TagLength,
+    Depth,
+    RootNonce,
+    CardLength,
+    BlockIndex,
+    BlockLength,
+    RangesLength,
+    NoncesLeft,
+    Tags,
+    /// A put's plan has a block of the card, the node is one of its nodes, and its place is not filled: each answers 9.
+    PlanIndex,
+    PlanNode,
+    PlanPlace,
+}
+
+impl Test {
+    /// The number of the refusal.
+    fn number(self) -> u64 {
+        match self {
+            Test::AnchorLength | Test::PlanLength | Test::MessagesLength | Test::TagLength => 5,
+            Test::Depth => 1,
+            Test::RootNonce => 2,
+            Test::CardLength => 3,
+            Test::BlockIndex => 4,
+            Test::BlockLength => 5,
+            Test::RangesLength => 6,
+            Test::NoncesLeft => 7,
+            Test::Tags => 8,
+            Test::PlanIndex | Test::PlanNode | Test::PlanPlace => 9,
+        }
+    }
+
+    /// Whether it is one of the lengths that come before the rest.
+    pub fn comes_first(self) -> bool {
+        self < Test::Depth
+    }
+}
 
 /// In how many ways a test can be made to fail.
 pub const WAYS: usize = 6;
 
 /// A test that is to fail, and the way.
-pub type Failing = (u64, usize);
+pub type Failing = (Test, usize);
 
 /// The tests of a call, in their order.
-pub fn tests_of(kind: Kind) -> &'static [u64] {
-    match kind {
-        Kind::Format => &[ANCHOR, 1, 3],
-        Kind::Read => &[ANCHOR, 1, 2, 3, 4, 5, 8],
-        Kind::Write => &[ANCHOR, 1, 2, 3, 4, 5, 6, 7, 8],
-        Kind::Check => &[ANCHOR, 1, 2, 3, 8],
-        Kind::Wipe => &[ANCHOR, 1, 2, 3, 7],
-    }
+pub fn tests_of(kind: Kind) -> Vec<Test> {
+    use Test::*;
+    let lengths: &[Test] = match kind {
+        Kind::Plan => &[AnchorLength, PlanLength, MessagesLength],
+        Kind::Put => &[AnchorLength, PlanLength, TagLength],
+        _ => &[AnchorLength],
+    };
+    let first: &[Test] = match kind {
+        Kind::Format => &[Depth, CardLength],
+        _ => &[Depth, RootNonce, CardLength],
+    };
+    let own: &[Test] = match kind {
+        Kind::Format => &[],
+        Kind::Read => &[BlockIndex, BlockLength, Tags],
+        Kind::Write | Kind::Plan => &[BlockIndex, BlockLength, RangesLength, NoncesLeft, Tags],
+        Kind::Check => &[Tags],
+        Kind::Wipe => &[NoncesLeft],
+        Kind::Put => &[PlanIndex, PlanNode, PlanPlace],
+    };
+    [lengths, first, own].concat()
 }
 
-/// Whether these tests can fail: every root nonce is a multiple of 1, so that test 2 can't at that depth.
+/// Whether these tests can fail: every root nonce is a multiple of 1, so that its test can't at that depth.
 pub fn possible(depth: u64, failing: &[Failing]) -> bool {
-    depth > 1 || failing.iter().all(|one| one.0 != 2)
+    depth > 1 || failing.iter().all(|one| one.0 != Test::RootNonce)
 }
 
-/// A call in which exactly these tests fail, and its answer: the first of them. The depth is tested first, so that no other
-/// test is looked at with a depth that fails.
+/// The tests that are made to fail by one thing each, in the order in which they are: what others go by comes last.
+const ALTERED: [Test; 12] = [
+    Test::CardLength,
+    Test::BlockIndex,
+    Test::BlockLength,
+    Test::RangesLength,
+    Test::MessagesLength,
+    Test::TagLength,
+    Test::PlanPlace,
+    Test::PlanNode,
+    Test::PlanIndex,
+    Test::PlanLength,
+    Test::Depth,
+    Test::AnchorLength,
+];
+
+/// A call in which exactly these tests fail, and its answer: the first of them. The depth is tested before all that it decides,
+/// so that no other test is looked at with a depth that fails.
 pub fn call(list: &List, kind: Kind, failing: &[Failing], random: &mut Random) -> (Call, Answer) {
     let way = |test| failing.iter().find(|one| one.0 == test).map(|one| one.1);
     let index = random.below(list.blocks() as usize) as u64;
     let mut call = list.call(kind, index, random);
-    set_root(&mut call, way(2), way(7), random);
+    let (multiple, room) = (way(Test::RootNonce), way(Test::NoncesLeft));
+    set_root(&mut call, multiple, room, random);
     let mut node = 0;
-    if let Some(way) = way(8) {
+    if let Some(way) = way(Test::Tags) {
         node = spoil_card(&mut call, way, random);
     }
-    for &(test, way) in failing {
-        match test {
-            3 => call.card.resize(other_length(list.depth, way), 0x1d),
-            4 => call.index = beyond(list.depth, index, way),
-            5 => call.block.resize([0, 63, 65, 16, 80, 128][way], 0x1d),
-            6 => call.ranges.truncate(too_short(list.depth, way)),
-            _ => {}
+    for test in ALTERED {
+        if let Some(way) = way(test) {
+            fail(&mut call, test, way);
         }
     }
-    if let Some(way) = way(1) {
-        let wrong = [0, 17, 32, 256 + list.depth, (1 << 32) + list.depth, !0];
-        cards::set_depth(&mut call.anchor, wrong[way]);
-    }
-    if let Some(way) = way(ANCHOR) {
-        call.anchor.resize([0, 16, 31, 33, 40, 64][way], 0x1d);
-    }
-    (call, first(failing, node))
+    let answer = match failing.iter().map(|one| one.0).min() {
+        None => Answer::ACCEPTED,
+        Some(Test::Tags) => Answer::wrong(node),
+        Some(first) => Answer::plain(first.number()),
+    };
+    (call, answer)
 }
 
-/// The answer that the first failing test gives.
-fn first(failing: &[Failing], node: u64) -> Answer {
-    match failing.iter().map(|one| one.0).min() {
-        None => Answer::ACCEPTED,
-        Some(ANCHOR) => Answer::plain(5),
-        Some(8) => Answer::wrong(node),
-        Some(number) => Answer::plain(number),
+/// Makes one of these tests fail.
+fn fail(call: &mut Call, test: Test, way: usize) {
+    let depth = cards::depth(&call.anchor);
+    match test {
+        Test::AnchorLength => call.anchor.resize([0, 16, 31, 33, 40, 64][way], 0x1d),
+        Test::PlanLength => call.plan.resize([0, 8, 16, 23, 25, 48][way], 0x1d),
+        Test::MessagesLength => {
+            // Just what the messages take is too short, but for depth 16.
+            let used = plans::messages_bytes(depth);
+            let lengths = [0, used, 640, 655, 657, 1_312];
+            call.messages.resize(lengths[way], 0x1d);
+        }
+        Test::TagLength => call.tag.resize([0, 8, 15, 17, 24, 32][way], 0x1d),
+        Test::Depth => {
+            let wrong = [0, 17, 32, 256 + depth, (1 << 32) + depth, !0];
+            cards::set_depth(&mut call.anchor, wrong[way]);
+        }
+        Test::CardLength => call.card.resize(other_length(depth, way), 0x1d),
+        Test::BlockIndex => call.index = beyond(depth, call.index, way),
+        Test::BlockLength => call.block.resize([0, 63, 65, 16, 80, 128][way], 0x1d),
+        Test::RangesLength => call.ranges.truncate(too_short(depth, way)),
+        Test::PlanIndex => {
+            let index = beyond(depth, plans::index(&call.plan), way);
+            plans::set_index(&mut call.plan, index);
+        }
+        Test::PlanNode => call.node = other_node(call, way),
+        Test::PlanPlace => fill_place(call, way),
+        Test::RootNonce | Test::NoncesLeft | Test::Tags => unreachable!("not by one thing"),
     }
 }
 
@@ -76,9 +162,10 @@ fn set_root(call: &mut Call, multiple: Option<usize>, room: Option<usize>, rando
     let depth = cards::depth(&call.anchor);
     let last = cards::last_root(depth);
     let before = depth * random.below(3) as u64;
+    let needs_room = tests_of(call.kind).contains(&Test::NoncesLeft);
     let root = match (multiple, room) {
         (None, None) if call.kind == Kind::Format => random.word(),
-        (None, None) if call.kind.moves() => last - depth - before,
+        (None, None) if needs_room => last - depth - before,
         (None, None) => last - before,
         (None, Some(_)) => last,
         (Some(way), None) => last - 2 * depth - before + 1 + way as u64 % (depth - 1),
@@ -96,9 +183,9 @@ fn set_root(call: &mut Call, multiple: Option<usize>, room: Option<usize>, rando
 /// The nodes that the call checks, in its order.
 pub fn checked(kind: Kind, depth: u64, index: u64) -> Vec<Node> {
     match kind {
-        Kind::Format | Kind::Wipe => Vec::new(),
+        Kind::Format | Kind::Wipe | Kind::Put => Vec::new(),
         Kind::Read => paths::read_checks(depth, BlockIndex(index)),
-        Kind::Write => paths::write_checks(depth, BlockIndex(index)),
+        Kind::Write | Kind::Plan => paths::write_checks(depth, BlockIndex(index)),
         Kind::Check => layout::nodes(depth).collect(),
     }
 }
@@ -147,4 +234,37 @@ fn beyond(depth: u64, index: u64, way: usize) -> u64 {
 fn too_short(depth: u64, way: usize) -> usize {
     let wanted = 16 * depth as usize;
     [0, 1, 8, wanted / 2, wanted - 8, wanted - 1][way]
+}
+
+/// A node that is not the plan's: the root and none, the first beyond the card, far beyond, and the first number that is left.
+fn other_node(call: &Call, way: usize) -> u64 {
+    let depth = cards::depth(&call.anchor);
+    let nodes = plans::nodes(depth, plans::index(&call.plan));
+    let mut elsewhere = (2..).filter(|node| !nodes.contains(node));
+    [
+        0,
+        1,
+        2 << depth,
+        (1 << 63) + call.node,
+        u64::MAX,
+        elsewhere.next().expect("numbers go on"),
+    ][way]
+}
+
+/// Fills the place of the put's node, alone or with others.
+fn fill_place(call: &mut Call, way: usize) {
+    let depth = cards::depth(&call.anchor);
+    let nodes = plans::nodes(depth, plans::index(&call.plan));
+    let place = nodes.iter().position(|&node| node == call.node);
+    let bit = 1 << place.expect("a node of the plan");
+    let filled = plans::filled(&call.plan) | bit;
+    let all = [
+        bit,
+        filled,
+        2 * bit - 1,
+        (1 << (2 * depth)) - 1,
+        bit | !0 << (2 * depth),
+        u64::MAX,
+    ];
+    plans::set_filled(&mut call.plan, all[way]);
 }

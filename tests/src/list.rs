@@ -1,9 +1,11 @@
 //! A list of calls from its format on, and what document 01 promises of each call in it.
 
 use crate::call::{Answer, Call, Kind};
-use crate::cards;
 use crate::random::Random;
+use crate::split::Split;
+use crate::{cards, plans};
 use reference::array::{Array, Told};
+use reference::host;
 use reference::tree::layout;
 
 /// How many earlier cards a list keeps.
@@ -73,22 +75,39 @@ impl List {
     /// A call within its limits, on the card as last left.
     pub fn call(&self, kind: Kind, index: u64, random: &mut Random) -> Call {
         let tail = random.below(20);
-        Call {
+        let mut call = Call {
             kind,
-            anchor: self.anchor.clone(),
-            card: self.card.clone(),
             index,
             block: self.block(kind, index, random),
             ranges: random.bytes(16 * self.depth as usize + tail),
+            ..Call::on(self.anchor.clone(), self.card.clone())
+        };
+        match kind {
+            Kind::Plan => {
+                call.plan = random.bytes(host::PLAN_BYTES);
+                call.messages = random.bytes(host::MESSAGES_BYTES);
+            }
+            Kind::Put => self.any_put(&mut call, random),
+            _ => {}
         }
+        call
     }
 
-    /// Any bytes for a read's buffer; for a write sometimes the block that is there already, or nearly.
+    /// Makes it the put of any tag at one of the nodes of its block, under a plan of which any other places are filled.
+    fn any_put(&self, call: &mut Call, random: &mut Random) {
+        let place = random.below(2 * self.depth as usize);
+        call.node = plans::node(self.depth, call.index, place as u64);
+        call.plan = plans::plan(call.index, random.word(), random.word() & !(1 << place));
+        call.tag = random.bytes(layout::TAG_BYTES);
+    }
+
+    /// Any bytes for a read's buffer; for a write or a plan sometimes the block that is there already, or nearly.
     fn block(&self, kind: Kind, index: u64, random: &mut Random) -> Vec<u8> {
         let mut there = self.array.block(index).to_vec();
+        let new = matches!(kind, Kind::Write | Kind::Plan);
         match random.below(6) {
-            0 if kind == Kind::Write => there,
-            1 if kind == Kind::Write => {
+            0 if new => there,
+            1 if new => {
                 there[random.below(64)] ^= 1 << random.below(8);
                 there
             }
@@ -100,6 +119,14 @@ impl List {
     pub fn write(&mut self, index: u64, random: &mut Random) {
         let call = self.call(Kind::Write, index, random);
         self.go_on(call, random);
+    }
+
+    /// An honest plan, which is accepted.
+    pub fn plan(&self, index: u64, random: &mut Random) -> Split {
+        let asked = self.call(Kind::Plan, index, random);
+        let mut planned = asked.clone();
+        assert_eq!(planned.both(), Answer::ACCEPTED, "{}", asked.short());
+        Split::new(asked, planned)
     }
 
     /// A wipe of the card as last left, which is accepted; the list goes on with it.
@@ -135,7 +162,7 @@ impl List {
                     assert_eq!(after.block, block, "{}", before.short());
                 }
             }
-            Kind::Write if accepted => expect_inside_ranges(self.depth, before, after),
+            Kind::Write | Kind::Plan if accepted => expect_inside_ranges(self.depth, before, after),
             Kind::Check if accepted => self.expect_array(&before.card),
             Kind::Wipe => self.expect_wiped(before, after, accepted),
             _ => {}
@@ -164,13 +191,27 @@ impl List {
 
     /// Goes on after an accepted write or wipe.
     pub fn accept(&mut self, before: &Call, after: Call, random: &mut Random) {
+        let untouched = before.card == self.card;
+        self.go_on_from(before, untouched, after, random);
+    }
+
+    /// Goes on after a split write whose tags were all put: it is one write, and its card was untouched if it was so at each
+    /// step.
+    pub fn accept_split(&mut self, split: Split, random: &mut Random) {
+        assert!(split.waiting.is_empty(), "every tag is put");
+        let untouched = split.untouched && split.asked.card == self.card;
+        self.go_on_from(&split.asked, untouched, split.left, random);
+    }
+
+    /// Goes on from what a write, whole or split, or a wipe has left.
+    fn go_on_from(&mut self, before: &Call, untouched: bool, after: Call, random: &mut Random) {
         let wiped = before.kind == Kind::Wipe;
         let told = match wiped {
             true => Told::Wipe,
             false => Told::Write(before.index, &before.block),
         };
         self.array.step(told, true);
-        self.clean = wiped || self.clean && before.card == self.card;
+        self.clean = wiped || self.clean && untouched;
         self.moves += 1;
         self.wipes += u64::from(wiped);
         let left = std::mem::replace(&mut self.card, after.card);
@@ -184,7 +225,7 @@ impl List {
     }
 
     /// Keeps an earlier card, in the place of another when there are many.
-    fn keep(&mut self, card: Vec<u8>, random: &mut Random) {
+    pub fn keep(&mut self, card: Vec<u8>, random: &mut Random) {
         if self.old.len() < KEPT {
             self.old.push(card);
         } else {

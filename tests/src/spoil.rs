@@ -1,9 +1,9 @@
 //! What whoever has the card, and software that is wrong, may hand to a call instead.
 
-use crate::call::Call;
-use crate::cards;
+use crate::call::{Call, Kind};
 use crate::list::List;
 use crate::random::Random;
+use crate::{cards, plans};
 use reference::tree::{layout, paths, BlockIndex, Node};
 
 /// One of several.
@@ -11,12 +11,21 @@ fn pick<T: Copy>(random: &mut Random, choices: &[T]) -> T {
     choices[random.below(choices.len())]
 }
 
-/// Alters something of the call, most often the card.
+/// Alters something of the call, most often the card, or now and then what only a plan or a put has.
 pub fn any(call: &mut Call, list: &List, random: &mut Random) {
+    match (call.kind, random.below(6)) {
+        (Kind::Plan, 0) => plan_lengths(call, random),
+        (Kind::Put, 0..=1) => put(call, list.depth, random),
+        _ => shared(call, list, random),
+    }
+}
+
+/// Alters something that most calls have.
+fn shared(call: &mut Call, list: &List, random: &mut Random) {
     match random.below(12) {
         0..=4 => card(call, list, random),
         5 => card_length(call, random),
-        6 => index(call, list.depth, random),
+        6 => call.index = beyond(call.index, list.depth, random),
         7 => block_length(call, random),
         8 => ranges_length(call, list.depth, random),
         9 => anchor_length(call, random),
@@ -26,7 +35,7 @@ pub fn any(call: &mut Call, list: &List, random: &mut Random) {
 }
 
 /// Another card of the same length; one already altered to another length stays as it is.
-fn card(call: &mut Call, list: &List, random: &mut Random) {
+pub fn card(call: &mut Call, list: &List, random: &mut Random) {
     if call.card.len() != list.card.len() {
         return;
     }
@@ -121,10 +130,10 @@ fn card_length(call: &mut Call, random: &mut Random) {
 }
 
 /// A block number that is not on the card, or not always.
-fn index(call: &mut Call, depth: u64, random: &mut Random) {
+fn beyond(index: u64, depth: u64, random: &mut Random) -> u64 {
     let blocks = layout::blocks(depth);
-    let within = call.index % blocks;
-    call.index = match random.below(8) {
+    let within = index % blocks;
+    match random.below(8) {
         0 => blocks,
         1 => blocks + within,
         2 => blocks + random.below(1 << 20) as u64,
@@ -133,7 +142,7 @@ fn index(call: &mut Call, depth: u64, random: &mut Random) {
         5 => u64::MAX - within,
         6 => (1 << 63) + within,
         _ => random.word() >> random.below(64),
-    };
+    }
 }
 
 /// A buffer or a block of another length.
@@ -152,6 +161,57 @@ fn ranges_length(call: &mut Call, depth: u64, random: &mut Random) {
         &[0, 1, wanted / 2, wanted - 8, wanted - 1, wanted, any],
     );
     call.ranges.resize(length, 0x2d);
+}
+
+/// Room of another length for a plan or its messages.
+fn plan_lengths(call: &mut Call, random: &mut Random) {
+    let any = random.below(800);
+    let length = pick(random, &[0, 8, 23, 25, 112, 655, 657, any]);
+    match random.below(2) {
+        0 => call.plan.resize(length, 0x2d),
+        _ => call.messages.resize(length, 0x2d),
+    }
+}
+
+/// Another node, another plan or another tag, or one of another length.
+fn put(call: &mut Call, depth: u64, random: &mut Random) {
+    if call.plan.len() != 24 {
+        return;
+    }
+    let (index, filled) = (plans::index(&call.plan), plans::filled(&call.plan));
+    let any = random.below(64);
+    let length = pick(random, &[0, 8, 15, 17, 23, 25, 48, any]);
+    match random.below(8) {
+        0..=1 => call.node = node(call.node, depth, random),
+        2 => call.plan = plans::plan(beyond(index, depth, random), random.word(), filled),
+        3 => {
+            let above = !0 << (2 * depth);
+            let other = pick(random, &[0, !0, !filled, filled | above]);
+            plans::set_filled(&mut call.plan, other);
+        }
+        4 => call.plan = random.bytes(24),
+        5 => call.plan.resize(length, 0x2d),
+        6 => call.tag.resize(length, 0x2d),
+        _ => call.tag = random.bytes(16),
+    }
+}
+
+/// Another node: of the card, or not.
+fn node(node: u64, depth: u64, random: &mut Random) -> u64 {
+    let choices = [
+        0,
+        1,
+        node / 2,
+        node << 1,
+        node ^ 2,
+        node ^ 1 << 32,
+        node ^ 1 << 63,
+        u64::MAX,
+        any_node(depth, random).0,
+        any_node(depth, random).0,
+        random.word(),
+    ];
+    pick(random, &choices)
 }
 
 /// An anchor of another length.

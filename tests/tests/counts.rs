@@ -1,12 +1,13 @@
-//! The count of AES calls that read, write, check and wipe carry: document 02's numbers, to which the reference's counter and
-//! the probe are held.
+//! The count of AES calls that read, write, plan, check and wipe carry: document 02's numbers, to which the reference's counter
+//! and the probe are held.
 
 use bindings::count;
+use reference::host;
 use reference::tree::{layout, Node};
 use tests::call::{Answer, Call, Kind};
 use tests::cards;
 use tests::guarded::Guarded;
-use tests::limits::{self, checked, Failing, ANCHOR, WAYS};
+use tests::limits::{self, checked, Failing, Test, WAYS};
 use tests::list::List;
 use tests::random::Random;
 
@@ -18,15 +19,16 @@ const LEAF: u64 = 5;
 /// What an accepted call carries at depth n.
 fn accepted(kind: Kind, n: u64) -> u64 {
     match kind {
-        Kind::Format => panic!("a format carries none"),
+        Kind::Format | Kind::Put => panic!("a {kind:?} carries none"),
         Kind::Read => 2 * n + 4,
         Kind::Write => 8 * n + 8,
+        Kind::Plan => 4 * n + 2,
         Kind::Check | Kind::Wipe => 7 * (1 << n) - 3,
     }
 }
 
 /// The calls that carry a count.
-const KINDS: [Kind; 4] = [Kind::Read, Kind::Write, Kind::Check, Kind::Wipe];
+const KINDS: [Kind; 5] = [Kind::Read, Kind::Write, Kind::Plan, Kind::Check, Kind::Wipe];
 
 /// What a call refused at that node carries: the subkeys, and each checked message up to the wrong one, that one too.
 fn refused_at(call: &Call, node: u64) -> u64 {
@@ -55,10 +57,10 @@ fn expect(call: &Call, answer: Answer) {
     assert_eq!(call.clone().both(), answer, "{}", call.short());
 }
 
-/// Reads and writes of these blocks, a check and a wipe.
+/// Reads, writes and plans of these blocks, a check and a wipe.
 fn calls(blocks: &[u64]) -> Vec<(Kind, u64)> {
     let mut calls = vec![(Kind::Check, 0), (Kind::Wipe, 0)];
-    for kind in [Kind::Read, Kind::Write] {
+    for kind in [Kind::Read, Kind::Write, Kind::Plan] {
         calls.extend(blocks.iter().map(|&index| (kind, index)));
     }
     calls
@@ -103,8 +105,8 @@ fn spoil(call: &mut Call, depth: u64, node: Node, way: usize, order: &[Node]) {
     }
 }
 
-/// Every node of small cards wrong, alone or with all that are checked after it, in every read and write and in a check: refused
-/// there, or accepted where the call does not look at it. A wipe looks at none.
+/// Every node of small cards wrong, alone or with all that are checked after it, in every read, write and plan and in a check:
+/// refused there, or accepted where the call does not look at it. A wipe looks at none.
 #[test]
 fn every_wrong_node() {
     let mut random = Random::new(0x7772_6f6e);
@@ -133,14 +135,12 @@ fn every_wrong_node() {
     assert!(refused >= 700 && passed >= 4_000, "{refused}, {passed}");
 }
 
-/// Every set of the call's tests, that of the anchor's length left out.
-fn sets(kind: Kind) -> Vec<Vec<u64>> {
-    let tests = limits::tests_of(kind)
-        .iter()
-        .filter(|&&test| test != ANCHOR);
+/// Every set of the call's tests, those of the lengths that come first left out.
+fn sets(kind: Kind) -> Vec<Vec<Test>> {
+    let tests = limits::tests_of(kind).into_iter();
     let mut sets = vec![Vec::new()];
-    for &test in tests {
-        let with: Vec<Vec<u64>> = sets
+    for test in tests.filter(|test| !test.comes_first()) {
+        let with: Vec<Vec<Test>> = sets
             .iter()
             .map(|set| [&set[..], &[test]].concat())
             .collect();
@@ -150,7 +150,7 @@ fn sets(kind: Kind) -> Vec<Vec<u64>> {
 }
 
 /// The tests to fail, in each of the ways.
-fn ways(set: &[u64]) -> impl Iterator<Item = Vec<Failing>> + '_ {
+fn ways(set: &[Test]) -> impl Iterator<Item = Vec<Failing>> + '_ {
     (0..WAYS).map(|way| set.iter().map(|&test| (test, way)).collect())
 }
 
@@ -177,21 +177,24 @@ fn limits_that_fail() {
 
 /// Makes the call through the probe with a key of its own, on bytes between guards.
 fn probe(call: &mut Call, key: &[u8]) -> u64 {
-    let (depth, root) = (cards::depth(&call.anchor), cards::root(&call.anchor));
+    let anchor = (key, cards::depth(&call.anchor), cards::root(&call.anchor));
     let mut card = Guarded::holding(&call.card);
     let mut block = Guarded::holding(&call.block);
     let mut ranges = Guarded::holding(&call.ranges);
+    let mut messages = Guarded::holding(&call.messages);
     let (on, of, into) = (card.part(), block.part(), ranges.part());
     let count = match call.kind {
-        Kind::Format => panic!("a format has no probe"),
-        Kind::Read => count::read(key, depth, root, on, call.index, of),
-        Kind::Write => count::write(key, depth, root, on, call.index, of, into),
-        Kind::Check => count::check(key, depth, root, on),
-        Kind::Wipe => count::wipe(key, depth, root, on),
+        Kind::Format | Kind::Put => panic!("a {:?} has no probe", call.kind),
+        Kind::Read => count::read(anchor, on, call.index, of),
+        Kind::Write => count::write(anchor, on, call.index, of, into),
+        Kind::Plan => count::plan(anchor, on, call.index, of, into, messages.part()),
+        Kind::Check => count::check(anchor, on),
+        Kind::Wipe => count::wipe(anchor, on),
     };
     call.card = card.into_part("card");
     call.block = block.into_part("block");
     call.ranges = ranges.into_part("ranges");
+    call.messages = messages.into_part("messages");
     count
 }
 
@@ -206,11 +209,31 @@ fn keys_of_another_length() {
             let call = list.call(kind, 1, &mut random);
             assert_eq!(probe(&mut call.clone(), &key[..16]), accepted(kind, depth));
             for length in (0..=64).filter(|&length| length != 16) {
-                let mut after = call.clone();
-                let count = probe(&mut after, &key[..length]);
-                assert_eq!(count, 0, "{kind:?}, a key of {length} bytes");
-                after.expect_bytes(&call, &format!("{kind:?}, a key of {length} bytes"));
+                let what = format!("{kind:?}, a key of {length} bytes");
+                expect_none(&call, &key[..length], &what);
             }
+        }
+    }
+}
+
+/// Expects no count, and that nothing changes.
+fn expect_none(call: &Call, key: &[u8], what: &str) {
+    let mut after = call.clone();
+    assert_eq!(probe(&mut after, key), 0, "{what}");
+    after.expect_bytes(call, what);
+}
+
+/// A plan with room for its messages of another length, also where they would fit: no count, and nothing changes.
+#[test]
+fn messages_of_another_length() {
+    let mut random = Random::new(0x6d65_7373);
+    for depth in [1, 4, 10] {
+        let list = List::used(depth, &mut random);
+        for length in (0..1_400).filter(|&length| length != host::MESSAGES_BYTES) {
+            let mut call = list.call(Kind::Plan, 1, &mut random);
+            call.messages.resize(length, 0x1d);
+            let what = format!("depth {depth}, messages of {length} bytes");
+            expect_none(&call, &list.anchor[..16], &what);
         }
     }
 }

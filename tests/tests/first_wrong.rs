@@ -1,4 +1,5 @@
-//! Refusal 8 names the first wrong tag in the call's checking order: every set of wrong tags at depth 3. A wipe sees none.
+//! Refusal 8 names the first wrong tag in the call's checking order: every set of wrong tags at depth 3. A plan has the write's
+//! order, and a wipe sees none.
 
 use reference::tree::Node;
 use tests::call::{Answer, Call, Kind};
@@ -56,7 +57,7 @@ fn expect_wiped(call: &Call, wiped: &Call) {
     call.expect_bytes(wiped, "wiped");
 }
 
-/// All 16,384 sets, with every read, every write, the check and the wipe.
+/// All 16,384 sets, with every read, every write, every plan, the check and the wipe.
 #[test]
 fn every_set_of_wrong_tags() {
     let mut random = Random::new(0x66697273);
@@ -64,7 +65,7 @@ fn every_set_of_wrong_tags() {
     for index in [5, 2, 7, 5, 0] {
         list.write(index, &mut random);
     }
-    let mut call = list.call(Kind::Check, 0, &mut random);
+    let mut call = list.call(Kind::Plan, 0, &mut random);
     let mut wiped = call.clone();
     wiped.kind = Kind::Wipe;
     assert_eq!(wiped.both(), Answer::ACCEPTED);
@@ -80,8 +81,10 @@ fn every_set_of_wrong_tags() {
             call.index = index;
             call.kind = Kind::Read;
             expect(&call, set, READ_ORDER[index as usize]);
-            call.kind = Kind::Write;
-            expect(&call, set, WRITE_ORDER[index as usize]);
+            for kind in [Kind::Write, Kind::Plan] {
+                call.kind = kind;
+                expect(&call, set, WRITE_ORDER[index as usize]);
+            }
         }
     }
 }

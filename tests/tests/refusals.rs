@@ -1,6 +1,7 @@
 //! Every refusal of every call, alone and with others: the first test that fails gives the answer, and no byte changes.
 
 use reference::cmac::Cmac;
+use reference::host;
 use reference::tree::{layout, messages, Anchor};
 use tests::call::{Answer, Call, Kind};
 use tests::cards;
@@ -82,7 +83,7 @@ fn only_the_depth() {
     for node in layout::nodes(depth) {
         messages::put_tag(&cmac, &anchor, &mut card, node);
     }
-    let mut call = Call::on(cards::anchor(&anchor.key, depth, 0), card);
+    let mut call = lent(Call::on(cards::anchor(&anchor.key, depth, 0), card));
     call.block = vec![3; 64];
     call.ranges = vec![4; 16 * 17];
     for kind in Kind::ALL {
@@ -91,10 +92,21 @@ fn only_the_depth() {
     }
 }
 
+/// The call with all that only C has in bytes, and node 2 to put a tag at.
+fn lent(call: Call) -> Call {
+    Call {
+        plan: vec![0; host::PLAN_BYTES],
+        messages: vec![5; host::MESSAGES_BYTES],
+        node: 2,
+        tag: vec![6; layout::TAG_BYTES],
+        ..call
+    }
+}
+
 /// Depth 0 by its own formula: 56 bytes and one block.
 #[test]
 fn depth_0() {
-    let mut call = Call::on(cards::anchor(&[0x2a; 16], 0, 0), vec![0; 56]);
+    let mut call = lent(Call::on(cards::anchor(&[0x2a; 16], 0, 0), vec![0; 56]));
     call.block = vec![3; 64];
     for kind in Kind::ALL {
         call.kind = kind;
@@ -102,15 +114,47 @@ fn depth_0() {
     }
 }
 
-/// Nothing at all is refused for the anchor's length, and a bare anchor for its depth.
+/// Nothing at all is refused for the anchor's length; a bare anchor, with what else only C has in bytes, for its depth.
 #[test]
 fn empty_slices() {
-    let mut call = Call::on(Vec::new(), Vec::new());
+    let nothing = Call::on(Vec::new(), Vec::new());
     for kind in Kind::ALL {
-        call.kind = kind;
-        call.anchor = Vec::new();
+        let mut call = Call {
+            kind,
+            ..nothing.clone()
+        };
         assert_eq!(call.both(), Answer::plain(5), "{kind:?}");
         call.anchor = vec![0; 32];
+        let bare = matches!(kind, Kind::Plan | Kind::Put);
+        let number = if bare { 5 } else { 1 };
+        assert_eq!(call.both(), Answer::plain(number), "{kind:?}");
+        let mut call = lent(call);
         assert_eq!(call.both(), Answer::plain(1), "{kind:?}");
+    }
+}
+
+/// Every other length of what only C has in bytes is refused 5, in each call that is given it.
+#[test]
+fn every_other_length() {
+    let mut random = Random::new(0x6c65_6e67);
+    for depth in DEPTHS {
+        let list = List::used(depth, &mut random);
+        for kind in [Kind::Plan, Kind::Put] {
+            let call = list.call(kind, 1, &mut random);
+            let parts: [fn(&mut Call) -> &mut Vec<u8>; 4] = [
+                |call| &mut call.anchor,
+                |call| &mut call.plan,
+                |call| &mut call.messages,
+                |call| &mut call.tag,
+            ];
+            for part in parts {
+                let wanted = part(&mut call.clone()).len();
+                for length in (0..2 * wanted).filter(|&length| length != wanted) {
+                    let mut other = call.clone();
+                    part(&mut other).resize(length, 0x1d);
+                    assert_eq!(other.both(), Answer::plain(5), "{}", other.short());
+                }
+            }
+        }
     }
 }

@@ -4,7 +4,9 @@
 use std::path::{Path, PathBuf};
 
 /// The crates between the cipher and C.
-const PRODUCT: [&str; 7] = ["cmac", "tree", "card", "stamp", "work", "calls", "pat"];
+const PRODUCT: [&str; 10] = [
+    "cmac", "tree", "card", "stamp", "work", "calls", "plan", "messages", "split", "pat",
+];
 
 /// The sources below a directory.
 fn below(directory: &Path, found: &mut Vec<PathBuf>) {
@@ -64,21 +66,20 @@ fn tags_are_made_in_three_places() {
     assert_eq!(files_with("tag::of("), ["stamp/lib.rt"]);
 }
 
-/// A context is made once in each of read, write, check and the making of an empty card, and each of these is handed to once.
+/// A context is made once in each of read, write, check, the making of an empty card and a plan, and each of these is handed to once.
 #[test]
 fn each_call_makes_one_context() {
-    assert_eq!(files_with("cmac::context_of("), ["work/lib.rt"; 4]);
+    let mut makers = vec!["work/lib.rt"; 4];
+    makers.push("split/within.rt");
+    assert_eq!(files_with("cmac::context_of("), makers);
     for work in ["blank", "read", "write", "check", "wipe"] {
         let call = format!("work::{work}(");
         assert_eq!(files_with(&call), ["calls/lib.rt"], "{call}");
     }
-    for part in [
-        "walk::path(",
-        "walk::pairs(",
-        "walk::all(",
-        "stamp::block(",
-        "stamp::blank(",
-    ] {
+    assert_eq!(files_with("within::plan("), ["split/lib.rt"]);
+    for part in ["walk::path(", "walk::all(", "stamp::block(", "stamp::blank("] {
         assert_eq!(files_with(part), ["work/lib.rt"], "{part}");
     }
+    let pairs = files_with("walk::pairs(");
+    assert_eq!(pairs, ["work/lib.rt", "split/within.rt"]);
 }

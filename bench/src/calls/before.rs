@@ -3,6 +3,7 @@
 mod archive;
 mod same;
 
+use super::places::Places;
 use super::store::Stores;
 use super::tables::{nanoseconds, CALLS};
 use super::{works, Call, Group, Work, DEPTHS};
@@ -10,14 +11,8 @@ use crate::report::{print_head, print_line};
 use crate::subject::Subject;
 use crate::timing::{race, Span};
 use std::cell::Cell;
-use std::hint::black_box;
 use std::rc::Rc;
 use std::time::Duration;
-
-/// Where a call's frame lies in its page changes its time by up to a tenth, and not alike for two archives. So each repetition
-/// has its stack at another of these places, which go once around a page; a prime, so that each work comes to each.
-const PLACES: usize = 17;
-const APART: usize = 256;
 
 /// What was found for a call at a depth.
 pub struct Pair {
@@ -51,17 +46,6 @@ fn place(work: Work) -> usize {
     place.expect("the table's depths are timed")
 }
 
-/// Runs the work with the stack so many places further down.
-fn further_down(places: usize, run: &mut dyn FnMut() -> Duration) -> Duration {
-    let room = black_box([0_u8; APART]);
-    let taken = match places {
-        0 => run(),
-        _ => further_down(places - 1, run),
-    };
-    black_box(&room);
-    taken
-}
-
 /// Times both archives in turn, on the same cards; none where the build was given no older one.
 pub fn measure() -> Result<Vec<Pair>, String> {
     let (present, Some(before)) = (archive::present(), archive::before()) else {
@@ -71,14 +55,11 @@ pub fn measure() -> Result<Vec<Pair>, String> {
     let turn = Rc::new(Cell::new(before));
     let mut stores = Stores::of_cards(turn.clone())?;
     stores.compare(&Stores::of_cards(Rc::new(Cell::new(present)))?)?;
-    let (mut found, mut repetition) = (Vec::new(), 0);
+    let (mut found, mut places) = (Vec::new(), Places::default());
     for Group { works, span } in groups() {
         let figures = race(2 * works.len(), span, |work, count| {
-            repetition += 1;
             turn.set([present, before][work % 2]);
-            further_down(repetition % PLACES, &mut || {
-                stores.measure(place(works[work / 2]), count)
-            })
+            places.run(|| stores.measure(place(works[work / 2]), count))
         });
         for (work, pair) in works.into_iter().zip(figures.chunks(2)) {
             let (present, before) = (pair[0].each, pair[1].each);

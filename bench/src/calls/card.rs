@@ -93,10 +93,10 @@ calls!(
 /// A card with its anchor.
 pub struct Card {
     calls: Rc<dyn Calls>,
-    anchor: [u8; 32],
-    card: Vec<u8>,
+    pub anchor: [u8; 32],
+    pub card: Vec<u8>,
     buffer: Block,
-    ranges: [u8; RANGES],
+    pub ranges: [u8; RANGES],
 }
 
 impl Card {

@@ -60,6 +60,31 @@ impl Draws {
     }
 }
 
+/// Where blocks are read and written, for each depth from 1, and what is written there.
+pub struct Drawn {
+    indices: Vec<[u32; DRAWN]>,
+    blocks: [Block; BLOCKS],
+}
+
+impl Drawn {
+    /// Draws the numbers.
+    pub fn new() -> Self {
+        let mut draws = Draws(0x9e37_79b9_7f4a_7c15);
+        let mut indices = Vec::new();
+        for depth in 1..=DEEPEST {
+            indices.push(std::array::from_fn(|_| draws.next() as u32 % (1 << depth)));
+        }
+        let blocks = std::array::from_fn(|_| std::array::from_fn(|_| draws.next() as u8));
+        Drawn { indices, blocks }
+    }
+
+    /// The block's number and the block of a turn.
+    pub fn turn(&self, depth: u32, turn: usize) -> (u64, &Block) {
+        let index = self.indices[depth as usize - 1][turn % DRAWN];
+        (u64::from(index), &self.blocks[turn % BLOCKS])
+    }
+}
+
 /// One subject's stores.
 pub struct Stores {
     works: Vec<Work>,
@@ -67,8 +92,7 @@ pub struct Stores {
     filled: Vec<Box<dyn Store>>,
     /// For each depth of the tables: a store that is only formatted and wiped.
     spare: Vec<Box<dyn Store>>,
-    drawn: Vec<[u32; DRAWN]>,
-    blocks: [Block; BLOCKS],
+    drawn: Drawn,
     cursor: usize,
 }
 
@@ -78,19 +102,13 @@ impl Stores {
         Self::new(|depth| Box::new(Card::new(calls.clone(), depth)))
     }
 
-    /// Draws the numbers, makes the stores and fills them.
+    /// Makes the stores and fills them.
     pub fn new(make: impl Fn(u32) -> Box<dyn Store>) -> Result<Self, String> {
-        let mut draws = Draws(0x9e37_79b9_7f4a_7c15);
-        let mut drawn = Vec::new();
-        for depth in 1..=DEEPEST {
-            drawn.push(std::array::from_fn(|_| draws.next() as u32 % (1 << depth)));
-        }
         let mut stores = Stores {
             works: works(),
             filled: (1..=DEEPEST).map(&make).collect(),
             spare: DEPTHS.map(&make).into_iter().collect(),
-            drawn,
-            blocks: std::array::from_fn(|_| std::array::from_fn(|_| draws.next() as u8)),
+            drawn: Drawn::new(),
             cursor: 0,
         };
         for depth in 1..=DEEPEST {
@@ -103,15 +121,15 @@ impl Stores {
 
     /// Formats a store, writes a block and wipes it, writes all drawn blocks and finds them there.
     fn fill(&mut self, depth: u32) -> Option<()> {
-        let place = depth as usize - 1;
-        let store = &mut self.filled[place];
+        let store = &mut self.filled[depth as usize - 1];
         let mut plain = vec![[0; 64]; 1 << depth];
         let accepted = |answer: bool| answer.then_some(());
         accepted(store.format())?;
-        accepted(store.write(1, &self.blocks[0]))?;
+        accepted(store.write(1, &self.drawn.blocks[0]))?;
         accepted(store.wipe())?;
-        for (&index, block) in self.drawn[place].iter().zip(self.blocks.iter().cycle()) {
-            accepted(store.write(u64::from(index), block))?;
+        for turn in 0..DRAWN {
+            let (index, block) = self.drawn.turn(depth, turn);
+            accepted(store.write(index, block))?;
             plain[index as usize] = *block;
         }
         for (index, block) in plain.iter().enumerate().step_by(1 + (plain.len() >> 12)) {
@@ -132,15 +150,13 @@ impl Stores {
 
     /// Makes a call that many times, with the drawn numbers in their order.
     fn run(&mut self, work: Work, count: u64) {
-        let place = work.depth as usize - 1;
-        let (drawn, blocks) = (&self.drawn[place], &self.blocks);
         let store = pick(&mut self.filled, &mut self.spare, work);
         let mut accepted = true;
         for _ in 0..count {
-            let index = u64::from(drawn[self.cursor % DRAWN]);
+            let (index, block) = self.drawn.turn(work.depth, self.cursor);
             accepted &= match work.call {
                 Call::Read => black_box(store.read(index)).is_some(),
-                Call::Write => store.write(index, &blocks[self.cursor % BLOCKS]),
+                Call::Write => store.write(index, block),
                 Call::Check => store.check(),
                 Call::Format => store.format(),
                 Call::Wipe => store.wipe(),

@@ -1,7 +1,8 @@
-//! "Calls": format, read, write and check, and the wipe of request T-01. Each tests first, so that a refused call has changed
-//! nothing; all but format count the blocks that AES encrypts for them, which a limit keeps at none.
+//! "Calls": format, read, write and check, the wipe of request T-01, and plan and put of T-03. Each tests first, so that a
+//! refused call has changed nothing; all but format and put count the blocks that AES encrypts for them, which a limit keeps at
+//! none.
 
-use super::words::{Anchor, Answer, BlockIndex, Counted, Node, Refusal};
+use super::words::{Anchor, Answer, BlockIndex, Counted, Node, Plan, Planned, Refusal};
 use super::{layout, limits, messages, paths, ranges};
 use crate::cmac::Cmac;
 
@@ -92,24 +93,26 @@ pub fn write(
 ) -> Counted {
     let limits = limits::write(anchor, card, index, block, buffer);
     counted(limits, &anchor.key, |cmac, index| {
-        let depth = anchor.depth;
-        all_right(cmac, anchor, card, paths::write_checks(depth, index))?;
-        let after = write_card(cmac, anchor, card, index, block);
-        let changed = ranges::encode(&ranges::changed(depth, index));
-        buffer[..changed.len()].copy_from_slice(&changed);
+        let after = write_without_tags(cmac, anchor, card, index, block, buffer)?;
+        for &node in &paths::path(anchor.depth, index)[1..] {
+            messages::put_tag(cmac, &after, card, node);
+            messages::put_tag(cmac, &after, card, node.sibling());
+        }
         Ok(after)
     })
 }
 
-/// What an accepted write does to the card; gives the new anchor.
-fn write_card(
+/// All of a write but its new tags, if those that it checks are right; gives the new anchor.
+fn write_without_tags(
     cmac: &Cmac,
     anchor: &Anchor,
     card: &mut [u8],
     index: BlockIndex,
     block: &[u8],
-) -> Anchor {
+    buffer: &mut [u8],
+) -> Result<Anchor, Refusal> {
     let depth = anchor.depth;
+    all_right(cmac, anchor, card, paths::write_checks(depth, index))?;
     let path = paths::path(depth, index);
     for y in 1..depth {
         let nonce = anchor.root + depth - y;
@@ -117,15 +120,61 @@ fn write_card(
         card[layout::label(depth, node)].copy_from_slice(&nonce.to_be_bytes());
     }
     card[layout::label(depth, layout::leaf(depth, index))].copy_from_slice(block);
-    let after = Anchor {
+    let changed = ranges::encode(&ranges::changed(depth, index));
+    buffer[..changed.len()].copy_from_slice(&changed);
+    Ok(Anchor {
         root: anchor.root + depth,
         ..*anchor
+    })
+}
+
+/// Plan: a write but for its new tags, whose messages are handed out with their nodes; the anchor stays as it was.
+pub fn plan(
+    anchor: &Anchor,
+    card: &mut [u8],
+    index: u64,
+    block: &[u8],
+    buffer: &mut [u8],
+) -> (Counted, Option<Planned>) {
+    let limits = limits::write(anchor, card, index, block, buffer);
+    let mut planned = None;
+    let counted = counted(limits, &anchor.key, |cmac, index| {
+        let after = write_without_tags(cmac, anchor, card, index, block, buffer)?;
+        let plan = Plan {
+            index: index.0,
+            root: after.root,
+            filled: 0,
+        };
+        let nodes = paths::tagged(anchor.depth, index).into_iter();
+        let messages = nodes.map(|node| (node, messages::message(&after, card, node)));
+        planned = Some(Planned {
+            plan,
+            messages: messages.collect(),
+        });
+        Ok(*anchor)
+    });
+    (counted, planned)
+}
+
+/// Put: a tag, whatever it is, goes to a node that the plan waits for. The one that fills the plan brings the new anchor.
+pub fn put_tag(
+    anchor: &Anchor,
+    plan: &mut Plan,
+    card: &mut [u8],
+    node: u64,
+    tag: &[u8; layout::TAG_BYTES],
+) -> Answer {
+    let place = match limits::put(anchor, plan, card, Node(node)) {
+        Ok(place) => place,
+        Err(refusal) => return Answer::Refused(refusal),
     };
-    for &node in &path[1..] {
-        messages::put_tag(cmac, &after, card, node);
-        messages::put_tag(cmac, &after, card, node.sibling());
-    }
-    after
+    card[layout::tag(anchor.depth, Node(node))].copy_from_slice(tag);
+    plan.filled |= 1 << place;
+    let full = (0..2 * anchor.depth).all(|place| plan.filled >> place & 1 == 1);
+    Answer::Accepted(Anchor {
+        root: if full { plan.root } else { anchor.root },
+        ..*anchor
+    })
 }
 
 /// Wipe: an empty card under the same key, whose nonces are all the next root nonce. No tag on the card is looked at.

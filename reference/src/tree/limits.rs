@@ -1,8 +1,7 @@
-//! "Who brings a call to a halt": the tests 1 to 7, and for each call those it has, in their order.
+//! "Who brings a call to a halt": the tests 1 to 7 and 9, and for each call those it has, in their order.
 
-use super::layout;
-use super::ranges;
-use super::words::{Anchor, BlockIndex, Refusal};
+use super::words::{Anchor, BlockIndex, Node, Plan, Refusal};
+use super::{layout, paths, ranges};
 
 type Test = Result<(), Refusal>;
 
@@ -56,6 +55,16 @@ fn nonces_left(anchor: &Anchor) -> Test {
     )
 }
 
+/// Test 9: the plan waits for a tag of that node; gives the node's place among the plan's.
+fn awaited(depth: u64, plan: &Plan, node: Node) -> Result<usize, Refusal> {
+    holds(plan.index < layout::blocks(depth), Refusal::NotAwaited)?;
+    let nodes = paths::tagged(depth, BlockIndex(plan.index));
+    let place = nodes.iter().position(|&one| one == node);
+    let place = place.ok_or(Refusal::NotAwaited)?;
+    holds(plan.filled >> place & 1 == 0, Refusal::NotAwaited)?;
+    Ok(place)
+}
+
 /// The limits of a format.
 pub fn format(n: u64, card: &[u8]) -> Test {
     depth(n)?;
@@ -92,7 +101,15 @@ pub fn read(
     Ok(BlockIndex(index))
 }
 
-/// The limits of a write; gives the index that passed.
+/// The limits of a put, which checks no tag; gives the place that the tag fills.
+pub fn put(anchor: &Anchor, plan: &Plan, card: &[u8], node: Node) -> Result<usize, Refusal> {
+    depth(anchor.depth)?;
+    root_nonce(anchor)?;
+    card_length(anchor.depth, card)?;
+    awaited(anchor.depth, plan, node)
+}
+
+/// The limits of a write and of a plan; gives the index that passed.
 pub fn write(
     anchor: &Anchor,
     card: &[u8],

@@ -30,6 +30,16 @@ pub fn write_checks(depth: u64, index: BlockIndex) -> Vec<Node> {
     checks
 }
 
+/// A write gives new tags to u_y and v_y, for each y from 1 to n: these nodes in rising number.
+pub fn tagged(depth: u64, index: BlockIndex) -> Vec<Node> {
+    let mut nodes = Vec::new();
+    for &node in &path(depth, index)[1..] {
+        nodes.extend([node, node.sibling()]);
+    }
+    nodes.sort();
+    nodes
+}
+
 #[cfg(test)]
 mod tests {
     use super::*;
@@ -42,6 +52,7 @@ mod tests {
         assert_eq!(numbers(path(3, index)), [1, 3, 6, 13]);
         assert_eq!(numbers(read_checks(3, index)), [3, 6, 13]);
         assert_eq!(numbers(write_checks(3, index)), [3, 2, 6, 7, 12]);
+        assert_eq!(numbers(tagged(3, index)), [2, 3, 6, 7, 12, 13]);
     }
 
     /// At depth 1 a write checks the other leaf alone.

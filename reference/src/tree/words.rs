@@ -1,4 +1,4 @@
-//! "Words": nodes, block indices, nonces and the anchor; and what a call answers and carries.
+//! "Words": nodes, block indices, nonces, the anchor and the plan; and what a call answers and carries.
 
 /// A node's number: 1 for the root, and below u there are 2u and 2u + 1.
 #[derive(Clone, Copy, Debug, PartialEq, Eq, PartialOrd, Ord)]
@@ -44,6 +44,15 @@ pub struct Anchor {
     pub root: u64,
 }
 
+/// What a plan and its puts keep: the block's number, the root nonce that the last put brings, and which places are filled. Bit
+/// k is the k-th of the plan's nodes in rising number; the bits above them mean nothing.
+#[derive(Clone, Copy, Debug, PartialEq, Eq)]
+pub struct Plan {
+    pub index: u64,
+    pub root: u64,
+    pub filled: u64,
+}
+
 /// Why a call is refused.
 #[derive(Clone, Copy, Debug, PartialEq, Eq)]
 pub enum Refusal {
@@ -55,6 +64,7 @@ pub enum Refusal {
     RangesLength,
     NoncesUsedUp,
     Wrong(Node),
+    NotAwaited,
 }
 
 /// What a call answers: the anchor that holds from now on, or the refusal.
@@ -77,6 +87,7 @@ impl Answer {
             Answer::Refused(Refusal::RangesLength) => 6,
             Answer::Refused(Refusal::NoncesUsedUp) => 7,
             Answer::Refused(Refusal::Wrong(_)) => 8,
+            Answer::Refused(Refusal::NotAwaited) => 9,
         }
     }
 
@@ -89,11 +100,18 @@ impl Answer {
     }
 }
 
-/// What read, write, check and wipe give: the answer, and how many blocks AES encrypted for it.
+/// What read, write, plan, check and wipe give: the answer, and how many blocks AES encrypted for it.
 #[derive(Clone, Copy, Debug, PartialEq, Eq)]
 pub struct Counted {
     pub answer: Answer,
     pub count: u64,
+}
+
+/// What an accepted plan hands out: the plan, and in rising number each of its nodes with the message that its tag is made of.
+#[derive(Clone, Debug, PartialEq, Eq)]
+pub struct Planned {
+    pub plan: Plan,
+    pub messages: Vec<(Node, Vec<u8>)>,
 }
 
 impl From<Result<Anchor, Refusal>> for Answer {
