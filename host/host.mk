@@ -16,6 +16,7 @@ HOST_CXX ?= g++
 HOST_FLAGS = -std=c11 -O2 -Wall -Wextra -Wpedantic -Werror -Wconversion -Wshadow
 HOST_SYSTEM = -Ihost -D_DEFAULT_SOURCE -D_XOPEN_SOURCE=700
 HOST_SANITIZE = -g -fsanitize=address,undefined -fno-sanitize-recover=all
+HOST_THREADS = -g -fsanitize=thread
 
 TOOL_SOURCES = $(wildcard host/roundcard/*.c)
 TOOL_NEEDS = $(TOOL_SOURCES) $(wildcard host/roundcard/*.h) host/pat.h host/host.mk $(PAT_ARCHIVE)
@@ -27,11 +28,14 @@ TEST_SOURCES = $(wildcard host/tests/calls/*.c)
 TEST_NEEDS = $(TEST_SOURCES) $(wildcard host/tests/calls/*.h) host/pat.h host/host.mk $(PAT_ARCHIVE)
 TEST_BUILD = $(HOST_CC) $(HOST_FLAGS) $(HOST_SYSTEM) -g
 
-# The parts of the test, which make check times one by one.
-HOST_TESTS = host-headers host-symbols host-stack host-manual host-calls-plain host-calls-sanitized host-calls-valgrind host-trees \
-    host-tool-plain host-tool-sanitized host-installed demo
+ENGINES_NEEDS = host/engines.c host/tests/engines.c host/pat.h host/host.mk $(PAT_ARCHIVE)
+ENGINES_BUILD = $(HOST_CC) $(HOST_FLAGS) -Ihost -pthread
 
-.PHONY: roundcard install uninstall host-test host-calls host-tool $(HOST_TESTS) FORCE
+# The parts of the test, which make check times one by one.
+HOST_TESTS = host-headers host-symbols host-stack host-manual host-calls-plain host-calls-sanitized host-calls-valgrind \
+    host-engines-plain host-engines-sanitized host-engines-threads host-trees host-tool-plain host-tool-sanitized host-installed demo
+
+.PHONY: roundcard install uninstall host-test host-calls host-engines host-tool $(HOST_TESTS) FORCE
 
 roundcard: $(HOST_OUT)/roundcard
 
@@ -56,6 +60,27 @@ $(HOST_OUT)/calls: $(TEST_NEEDS)
 $(HOST_OUT)/sanitized/calls: $(TEST_NEEDS)
 	@mkdir -p $(@D)
 	$(TEST_BUILD) $(HOST_SANITIZE) $(TEST_SOURCES) $(PAT_ARCHIVE) -o $@
+
+# The example with several engines, and the program that compares them with pat_write.
+$(HOST_OUT)/engines: $(ENGINES_NEEDS)
+	@mkdir -p $(@D)
+	$(ENGINES_BUILD) host/engines.c $(PAT_ARCHIVE) -o $@
+
+$(HOST_OUT)/compare: $(ENGINES_NEEDS)
+	@mkdir -p $(@D)
+	$(ENGINES_BUILD) host/tests/engines.c $(PAT_ARCHIVE) -o $@
+
+$(HOST_OUT)/sanitized/engines: $(ENGINES_NEEDS)
+	@mkdir -p $(@D)
+	$(ENGINES_BUILD) $(HOST_SANITIZE) host/engines.c $(PAT_ARCHIVE) -o $@
+
+$(HOST_OUT)/sanitized/compare: $(ENGINES_NEEDS)
+	@mkdir -p $(@D)
+	$(ENGINES_BUILD) $(HOST_SANITIZE) host/tests/engines.c $(PAT_ARCHIVE) -o $@
+
+$(HOST_OUT)/threads/compare: $(ENGINES_NEEDS)
+	@mkdir -p $(@D)
+	$(ENGINES_BUILD) $(HOST_THREADS) host/tests/engines.c $(PAT_ARCHIVE) -o $@
 
 # The tool over a library that answers anything.
 $(HOST_OUT)/odd: $(TOOL_NEEDS) host/tests/tool/odd.c
@@ -115,6 +140,7 @@ host-calls: host-calls-plain host-calls-sanitized host-calls-valgrind
 
 host-calls-plain: $(HOST_OUT)/calls
 	python3 -B host/tests/known.py | cmp - host/tests/calls/known.h
+	python3 -B host/tests/known_plans.py | cmp - host/tests/calls/known_plans.h
 	$(HOST_OUT)/calls
 
 host-calls-sanitized: $(HOST_OUT)/sanitized/calls
@@ -122,6 +148,18 @@ host-calls-sanitized: $(HOST_OUT)/sanitized/calls
 
 host-calls-valgrind: $(HOST_OUT)/calls
 	host/tests/valgrind.sh $(HOST_OUT)/calls
+
+# Split writes by the engines of the example: against pat_write, and the same with memory and with threads watched.
+host-engines: host-engines-plain host-engines-sanitized host-engines-threads
+
+host-engines-plain: $(HOST_OUT)/engines $(HOST_OUT)/compare
+	host/tests/engines.sh $(HOST_OUT)/engines $(HOST_OUT)/compare 2000
+
+host-engines-sanitized: $(HOST_OUT)/sanitized/engines $(HOST_OUT)/sanitized/compare
+	host/tests/engines.sh $(HOST_OUT)/sanitized/engines $(HOST_OUT)/sanitized/compare 500
+
+host-engines-threads: $(HOST_OUT)/threads/compare
+	host/tests/threads.sh $(HOST_OUT)/threads/compare 300
 
 # The benchmark's tree in plain C, over the CMACs of other libraries, beside the calls.
 host-trees: $(PAT_ARCHIVE)

@@ -26,7 +26,8 @@
 // library it needs at most memcpy, memset, memmove and memcmp.
 //
 // Threads. The library has no state: no variable outlives a call, and no memory is allocated. Calls
-// on different memory may run at once, and so may reads and checks on the same memory.
+// on different memory may run at once, and so may reads and checks on the same memory. The steps of
+// a split write are on the same memory, and are made one after the other.
 //
 // Answers. 0 says accepted. Every other answer is a refusal number plus 256 times a node number;
 // pat_refusal and pat_node take it apart, and only refusal 8 names a node. A call makes its tests
@@ -56,9 +57,9 @@ extern "C" {
 #endif
 
 // The version of library and header.
-#define PAT_VERSION "0.4.0"
+#define PAT_VERSION "0.5.0"
 #define PAT_VERSION_MAJOR 0
-#define PAT_VERSION_MINOR 4
+#define PAT_VERSION_MINOR 5
 #define PAT_VERSION_PATCH 0
 
 // The stack that any call needs at most.
@@ -86,13 +87,34 @@ extern "C" {
 #define PAT_RANGE_BYTES(depth) (8 * PAT_RANGES(depth))
 #define PAT_MAX_RANGE_BYTES 256
 
+// A plan of a split write: the block number, the new root nonce and which tags are put already, as
+// numbers of 8 bytes at these places. Bit k of the last, of value 2^k, is for the k-th of the
+// plan's nodes, counted from 0 in rising node number. Bits that are for no node mean nothing.
+#define PAT_PLAN_BYTES 24
+#define PAT_PLAN_INDEX 0
+#define PAT_PLAN_ROOT 8
+#define PAT_PLAN_FILLED 16
+
+#define PAT_TAG_BYTES 16
+
+// How many messages a plan gives, which is how many tags it awaits, and how many bytes they fill of
+// the buffer of messages; 0 for a depth that is not 1 to 16. Constant expressions where the depth
+// is one; the depth is evaluated more than once. The buffer itself has one length, for all depths.
+#define PAT_MESSAGES(depth)                                                                        \
+    ((depth) >= 1 && (depth) <= PAT_MAX_DEPTH ? (size_t)2 * (size_t)(depth) : (size_t)0)
+#define PAT_MESSAGES_FILLED(depth)                                                                 \
+    ((depth) >= 1 && (depth) <= PAT_MAX_DEPTH ? (size_t)34 * (size_t)(depth) + 112 : (size_t)0)
+#define PAT_MESSAGES_BYTES 656
+
 // How many AES calls an accepted call makes on a card of that depth, for those who plan the chip's
 // work: 1 for the subkeys of the CMAC, 2 for each tag of an inner node that is checked or made, 5
 // for each tag of a block. That is 2 * depth + 4 for a read, 8 * depth + 8 for a write, in place
-// too, and 7 * 2^depth - 3 for a check and for a wipe. A refusal with 8 makes those up to and with
-// the wrong tag, and so never more than these; every other refusal makes none. 0 for a depth that
-// is not 1 to 16. Constant expressions where the depth is one; the depth is evaluated more than
-// once.
+// too, 7 * 2^depth - 3 for a check and for a wipe, and 4 * depth + 2 for a plan. The plan's tags
+// are made by the engines, which need 4 * depth + 6 calls for all of them, the subkeys being
+// counted with the plan: plan and engines together make the write's 8 * depth + 8. A put makes
+// none. A refusal with 8 makes those up to and with the wrong tag, and so never more than these;
+// every other refusal makes none. 0 for a depth that is not 1 to 16. Constant expressions where the
+// depth is one; the depth is evaluated more than once.
 #define PAT_AES_READ(depth)                                                                        \
     ((depth) >= 1 && (depth) <= PAT_MAX_DEPTH ? (size_t)2 * (size_t)(depth) + 4 : (size_t)0)
 #define PAT_AES_WRITE(depth)                                                                       \
@@ -100,6 +122,8 @@ extern "C" {
 #define PAT_AES_CHECK(depth)                                                                       \
     ((depth) >= 1 && (depth) <= PAT_MAX_DEPTH ? ((size_t)7 << ((depth)&31)) - 3 : (size_t)0)
 #define PAT_AES_WIPE(depth) PAT_AES_CHECK(depth)
+#define PAT_AES_PLAN(depth)                                                                        \
+    ((depth) >= 1 && (depth) <= PAT_MAX_DEPTH ? (size_t)4 * (size_t)(depth) + 2 : (size_t)0)
 
 // Why a call is refused. Behind the colon, who can mend it.
 enum pat_refusals {
@@ -108,10 +132,12 @@ enum pat_refusals {
     PAT_REFUSED_ROOT_NONCE = 2,   // T is no multiple of the depth: the anchor
     PAT_REFUSED_CARD_LENGTH = 3,  // not the length of a card of this depth: whoever has the card
     PAT_REFUSED_BLOCK_NUMBER = 4, // the block number is 2^depth or above: the calling software
-    PAT_REFUSED_LENGTH = 5,       // anchor not 32 bytes, or block not 64: the calling software
+    PAT_REFUSED_LENGTH = 5,       // anchor not 32 bytes, block not 64, plan not 24, messages not
+                                  // 656, or tag not 16: the calling software
     PAT_REFUSED_RANGE_LENGTH = 6, // the range buffer is too short: the calling software
     PAT_REFUSED_SPENT = 7,        // no write or wipe fits, T + depth passes 2^64 - 1: the anchor
-    PAT_REFUSED_TAG = 8           // the tag of the node named is wrong: whoever has the card
+    PAT_REFUSED_TAG = 8,          // the tag of the node named is wrong: whoever has the card
+    PAT_REFUSED_NOT_AWAITED = 9   // the plan awaits no tag of that node: the calling software
 };
 
 // The refusal number of an answer.
@@ -139,13 +165,16 @@ static inline const char *pat_refusal_text(uint64_t answer) {
     case PAT_REFUSED_BLOCK_NUMBER:
         return "the card has no block of that number";
     case PAT_REFUSED_LENGTH:
-        return "the anchor has not 32 bytes, or the block not 64";
+        return "the anchor has not 32 bytes, or the block not 64, the plan not 24, the messages "
+               "not 656 or the tag not 16";
     case PAT_REFUSED_RANGE_LENGTH:
         return "the range buffer is too short";
     case PAT_REFUSED_SPENT:
         return "the root nonces are used up";
     case PAT_REFUSED_TAG:
         return "a tag on the card is wrong";
+    case PAT_REFUSED_NOT_AWAITED:
+        return "the plan awaits no tag of that node";
     default:
         return "this is no answer of the library";
     }
@@ -201,6 +230,34 @@ static inline uint32_t pat_range_length(const uint8_t *ranges, size_t k) {
     return (uint32_t)pat_get_number(ranges + 8 * k);
 }
 
+// Message k of a plan of a block, counted from 0: the node that its tag is for, and where it starts
+// in the buffer of messages and how long it is. All zero where there is none: for a depth that is
+// not 1 to 16, a block number of 2^depth or above, and a k of PAT_MESSAGES(depth) or above.
+struct pat_message {
+    uint64_t node;
+    size_t start;
+    size_t length;
+};
+
+// C++ has the struct, by its whole name, beside the function, which a compiler may warn of.
+#if defined(__cplusplus) && defined(__GNUC__)
+#pragma GCC diagnostic push
+#pragma GCC diagnostic ignored "-Wshadow"
+#endif
+static inline struct pat_message pat_message(uint64_t depth, uint64_t index, unsigned k) {
+    struct pat_message message = {0, 0, 0};
+    if (k >= PAT_MESSAGES(depth) || index >> depth != 0)
+        return message;
+    size_t inner = PAT_MESSAGES(depth) - 2;
+    message.node = 2 * ((((uint64_t)1 << depth) + index) >> (depth - k / 2)) + k % 2;
+    message.start = k < inner ? (size_t)17 * k : 17 * inner + 73 * (k - inner);
+    message.length = k < inner ? 17 : 73;
+    return message;
+}
+#if defined(__cplusplus) && defined(__GNUC__)
+#pragma GCC diagnostic pop
+#endif
+
 // Makes an empty card: all blocks and nonces zero, all tags right for T = 0. Takes key and depth
 // from the anchor and sets its T to 0, whatever it was.
 //
@@ -255,6 +312,65 @@ uint64_t pat_check(const uint8_t *anchor, size_t anchor_len, const uint8_t *card
 // Refused 5: the anchor has not 32 bytes. 1: depth. 2: T. 3: card length. 7: T is spent; format
 // another card with a new key.
 uint64_t pat_wipe(uint8_t *anchor, size_t anchor_len, uint8_t *card, size_t card_len) PAT_CALL;
+
+// A split write, for a box with several cipher engines: pat_plan makes the tests of a write and all
+// of its changes but the tags and T, the engines make the tags, and pat_put_tag puts them on the
+// card, one in each call and in any order; the last one moves T. If each is the AES-CMAC of its
+// message under the anchor's key, then card, anchor and ranges end as pat_write leaves them.
+//
+// pat_plan gives the path's inner nodes their new nonces and the leaf its block; no tag changes. It
+// lists the ranges as a write does. The plan gets the block number, the new T, which is the old one
+// plus the depth, and no tag put. The first PAT_MESSAGES_FILLED(depth) bytes of the messages get
+// the messages of the path's nodes and their siblings, in rising node number and end to end: the
+// nonce or block of the node as it is now, 8 or 64 bytes, the new nonce of its parent, 8 bytes, and
+// its side, 0 for an even node and 1 for an odd one. pat_message takes them apart. The anchor and
+// the rest of the card, the range buffer and the messages stay as they were.
+//
+// The host goes on in this order:
+// 1. It gives each message to an engine. The messages are no longer needed by any call, and may be
+//    read while tags are put.
+// 2. It puts each tag as it comes, by a call of pat_put_tag. Each call gets anchor, plan and card
+//    as the step before left them, and no other call stands between the plan and its last put.
+// 3. After the last put it stores the new anchor, and only then copies the ranges out, as for
+//    pat_write.
+//
+// Plan and messages are trusted as the anchor is: whoever can alter them chooses T, or what is
+// tagged. Keep them where nobody else can.
+//
+// Until the last put the card is no card of its anchor: that still has the old T, and tags along
+// the path are wrong under it. So nothing of anchor, plan or card is stored before. Where the last
+// put never comes, the plan is given up: it is thrown away with its tags, those too that are still
+// to come, since a put under it after a later write could set T back. The host goes on with the
+// anchor and with the card's bytes of before, which it has kept or loads anew. The next plan or
+// write takes the same nonces, so no tag of the one given up may have been seen outside the box.
+//
+// A refused call leaves plan and messages as they were. If the plan's bytes are those of an earlier
+// call, they are that plan still: put no tag under it.
+//
+// Refused 5: the anchor has not 32 bytes, the plan not 24 or the messages not 656. 1: depth. 2: T.
+// 3: card length. 4: block number. 5: the block has not 64 bytes. 6: range buffer. 7: T is spent.
+// 8: a tag is wrong, the same as in a write.
+uint64_t pat_plan(const uint8_t *anchor, size_t anchor_len, uint8_t *card, size_t card_len,
+                  uint64_t index, const uint8_t *block, size_t block_len, uint8_t *ranges,
+                  size_t ranges_len, uint8_t *plan, size_t plan_len, uint8_t *messages,
+                  size_t messages_len) PAT_CALL;
+
+// Puts the tag of a node on the card and notes it in the plan. If now all PAT_MESSAGES(depth) tags
+// are put, the anchor's T becomes the plan's; else the anchor stays as it was, as does every other
+// byte.
+//
+// The tag is not verified. A wrong one is found, and refused with 8, by the next read of a block
+// under its node, by a write or plan that checks that node, and by a check.
+//
+// It has an answer for a plan of any bytes and looks at no byte of the card. T becomes whatever
+// such a plan says.
+//
+// Refused 5: the anchor has not 32 bytes, the plan not 24 or the tag not 16. 1: depth. 2: T.
+// 3: card length. 9: the plan's block number is 2^depth or above, the node is none of the plan's,
+// or its tag is put already; no node is named.
+uint64_t pat_put_tag(uint8_t *anchor, size_t anchor_len, uint8_t *plan, size_t plan_len,
+                     uint8_t *card, size_t card_len, uint64_t node, const uint8_t *tag,
+                     size_t tag_len) PAT_CALL;
 
 // An anchor for code that keeps it in memory of its own, as boot code does: the same three things,
 // the numbers as the machine has them.

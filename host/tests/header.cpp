@@ -9,6 +9,8 @@ static const unsigned depth = 3;
 static_assert(PAT_AES_READ(depth) == 10 && PAT_AES_WRITE(depth) == 32, "AES calls of one block");
 static_assert(PAT_AES_CHECK(depth) == 53 && PAT_AES_WIPE(depth) == 53, "AES calls of a whole card");
 static_assert(PAT_AES_READ(0) == 0 && PAT_AES_WRITE(17) == 0, "none where no call is accepted");
+static_assert(PAT_AES_PLAN(depth) == 14 && PAT_AES_PLAN(0) == 0, "AES calls of a plan");
+static_assert(PAT_MESSAGES(depth) == 6 && PAT_MESSAGES_FILLED(depth) == 214, "a plan's messages");
 static_assert(PAT_AES_CHECK(-1) == 0 && PAT_AES_WIPE(UINT64_MAX) == 0, "none, here neither");
 
 // A write on the anchor as a struct, and the anchor's bytes after it.
@@ -32,6 +34,33 @@ static bool wiped(uint8_t *anchor, uint8_t *card) {
     answer = pat_read(anchor, PAT_ANCHOR_BYTES, card, pat_card_bytes(depth), 5, buffer.data(),
                       buffer.size());
     return answer == PAT_ACCEPTED && buffer == zero;
+}
+
+// A split write with tags that are all zero: every place is filled, T moves, and a read finds it.
+static bool split(uint8_t *anchor, uint8_t *card, const uint8_t *block, uint8_t *ranges) {
+    std::array<uint8_t, PAT_PLAN_BYTES> plan{};
+    std::array<uint8_t, PAT_MESSAGES_BYTES> messages{};
+    std::array<uint8_t, PAT_TAG_BYTES> tag{};
+    std::array<uint8_t, PAT_BLOCK_BYTES> buffer{};
+    uint64_t root = pat_get_number(anchor + PAT_ANCHOR_ROOT);
+    uint64_t answer = pat_plan(anchor, PAT_ANCHOR_BYTES, card, pat_card_bytes(depth), 5, block,
+                               PAT_BLOCK_BYTES, ranges, PAT_RANGE_BYTES(depth), plan.data(),
+                               plan.size(), messages.data(), messages.size());
+    for (unsigned k = 0; k < PAT_MESSAGES(depth) && answer == PAT_ACCEPTED; k++) {
+        struct pat_message message = pat_message(depth, 5, k);
+        if (messages[message.start + message.length - 1] != message.node % 2)
+            return false;
+        answer = pat_put_tag(anchor, PAT_ANCHOR_BYTES, plan.data(), plan.size(), card,
+                             pat_card_bytes(depth), message.node, tag.data(), tag.size());
+    }
+    if (answer != PAT_ACCEPTED || pat_get_number(anchor + PAT_ANCHOR_ROOT) != root + depth)
+        return false;
+    if (pat_put_tag(anchor, PAT_ANCHOR_BYTES, plan.data(), plan.size(), card, pat_card_bytes(depth),
+                    2, tag.data(), tag.size()) != PAT_REFUSED_NOT_AWAITED)
+        return false;
+    answer = pat_read(anchor, PAT_ANCHOR_BYTES, card, pat_card_bytes(depth), 5, buffer.data(),
+                      buffer.size());
+    return answer == PAT_REFUSED_TAG + 256 * 3;
 }
 
 int main() {
@@ -63,5 +92,7 @@ int main() {
     bool blocks = pat_first_block(depth, 6) == 4 && pat_last_block(depth, 6) == 5;
     if (!refused || !blocks || std::strlen(pat_refusal_text(answer)) == 0)
         return 6;
-    return wiped(anchor.data(), card.data()) ? 0 : 7;
+    if (!wiped(anchor.data(), card.data()))
+        return 7;
+    return split(anchor.data(), card.data(), block.data(), ranges.data()) ? 0 : 8;
 }

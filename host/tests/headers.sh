@@ -12,7 +12,7 @@ count=0
 # try COMPILER STANDARD SOURCE: compiles, links and runs it.
 try() {
     # shellcheck disable=SC2086
-    "$1" "-std=$2" $warnings -I"$here/.." "$3" "$archive" -o "$room/program"
+    "$1" "-std=$2" $warnings -pthread -I"$here/.." "$3" "$archive" -o "$room/program"
     "$room/program" >"$room/out"
     count=$((count + 1))
 }
@@ -39,6 +39,7 @@ for cc in "${CC:-gcc}" clang; do
     command -v "$cc" >/dev/null || { echo "skipped: $cc is not here, so the header is not compiled with it"; continue; }
     for standard in c99 c11 c17; do
         try "$cc" "$standard" "$here/../example.c"
+        try "$cc" "$standard" "$here/../engines.c"
         compile "$cc" "$standard" "$here/calls/header.c"
     done
     compile "$cc" c11 "$here/misuse.c"
@@ -46,6 +47,10 @@ for cc in "${CC:-gcc}" clang; do
     misuse IGNORED_WIPE 'unused-result'
     misuse NULL_POINTER 'nonnull'
     misuse NO_CARD_TO_WIPE 'nonnull'
+    misuse IGNORED_PLAN 'unused-result'
+    misuse IGNORED_PUT 'unused-result'
+    misuse NO_MESSAGES 'nonnull'
+    misuse NO_TAG 'nonnull'
     misuse NO_DEPTH 'zero.size'
 done
 for cxx in "${CXX:-g++}" clang++; do

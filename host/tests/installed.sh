@@ -1,5 +1,5 @@
 #!/bin/sh
-# Installs into a folder of its own, builds and runs the example from there, and uninstalls.
+# Installs into a folder of its own, builds and runs the examples from there, and uninstalls.
 #   installed.sh ARCHIVE
 set -eu
 archive=$1
@@ -62,8 +62,12 @@ fi
 grep -q 'block 3: van 7: round 12' "$room/out" || fail 'the example reads something else'
 grep -q 'refused 8 at node 7' "$room/out" || fail 'the example is not refused'
 grep -q 'wiped: an empty card' "$room/out" || fail 'the example does not end with an empty card'
+# shellcheck disable=SC2086
+"${CC:-gcc}" -std=c99 -Wall -Wextra -Wpedantic -Werror -pthread "$here/../engines.c" $flags -o "$room/engines"
+"$room/engines" >"$room/out" || fail 'the example with several engines'
+grep -q -x 'block 5: van 9: round 12' "$room/out" || fail 'the example with several engines reads something else'
 
 run_make uninstall
 [ "$(list)" = "$others" ] || fail "uninstall leaves or takes something: $(list)"
 run_make uninstall
-echo 'installed: archive, header, tool, pat.pc, man pages and completion; the example builds and runs from there; uninstalled'
+echo 'installed: archive, header, tool, pat.pc, man pages and completion; the examples build and run from there; uninstalled'

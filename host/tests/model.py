@@ -1,5 +1,5 @@
-"""The card of document 01, with the wipe of request T-01 and a count of AES calls, in plain Python, AES-128 and CMAC included, for
-known answers and for the tool's tests."""
+"""The card of document 01, with the wipe of request T-01, a count of AES calls and the split write of request T-03, in plain Python,
+AES-128 and CMAC included, for known answers and for the tool's tests."""
 
 KEY, BLOCK, TAG, NONCE = 16, 64, 16, 8
 
@@ -142,14 +142,15 @@ class Card:
     def anchor(self):
         return self.key + self.depth.to_bytes(8, "big") + self.root.to_bytes(8, "big")
 
-    def label(self, node):
+    def label(self, node, root=None):
+        """A node's nonce or block. The root's nonce is the anchor's, where no other is given."""
         if node == 1:
-            return self.root.to_bytes(8, "big")
+            return (self.root if root is None else root).to_bytes(8, "big")
         start, size = place(self.depth, node)
         return bytes(self.bytes[start : start + size])
 
-    def message(self, node):
-        return self.label(node) + self.label(node // 2) + bytes([node % 2])
+    def message(self, node, root=None):
+        return self.label(node) + self.label(node // 2, root) + bytes([node % 2])
 
     def put_label(self, node, label):
         start, size = place(self.depth, node)
@@ -179,18 +180,28 @@ class Card:
         self.begin(self.path(index)[1:])
         return self.block(index)
 
-    def write(self, index, block):
-        """An accepted write; gives the ranges."""
-        self.begin(self.before_write(index))
+    def put_labels(self, index, block):
+        """The nonces of the path's inner nodes, and the block, as a write gives them."""
         path = self.path(index)
         for y, node in enumerate(path[1:-1], 1):
             self.put_label(node, (self.root + self.depth - y).to_bytes(8, "big"))
         self.put_label(path[-1], block)
+
+    def write(self, index, block):
+        """An accepted write; gives the ranges."""
+        self.begin(self.before_write(index))
+        self.put_labels(index, block)
         self.root += self.depth
-        for node in path[1:]:
+        for node in self.path(index)[1:]:
             for child in (node, node ^ 1):
                 self.put_tag(child, self.cmac.tag(self.message(child)))
         return self.ranges(index)
+
+    def plan(self, index, block):
+        """An accepted plan: what a write checks and puts, but for the tags and the root nonce."""
+        self.begin(self.before_write(index))
+        self.put_labels(index, block)
+        return Plan(self, index)
 
     def check(self):
         """An accepted check."""
@@ -220,6 +231,31 @@ class Card:
             if self.bytes[entry(self.depth, node)][-TAG:] != self.cmac.tag(self.message(node)):
                 return node
         return None
+
+
+class Plan:
+    """A split write behind its plan: the nodes that it gives tags to, rising, and their messages under the root nonce to come."""
+
+    def __init__(self, card, index):
+        self.card, self.index, self.root, self.filled = card, index, card.root + card.depth, set()
+        self.nodes = sorted(child for node in card.path(index)[1:] for child in (node, node ^ 1))
+        self.messages = [card.message(node, self.root) for node in self.nodes]
+
+    def tag(self, node):
+        """What an engine makes for a node."""
+        return self.card.cmac.tag(self.messages[self.nodes.index(node)])
+
+    def put(self, node, tag):
+        """An accepted put. The last one moves the card's root nonce."""
+        assert node in self.nodes and node not in self.filled, "the put would be refused"
+        self.card.put_tag(node, tag)
+        self.filled.add(node)
+        if len(self.filled) == len(self.nodes):
+            self.card.root = self.root
+
+    def filled_number(self):
+        """A bit for each node, the lowest node's of value 1."""
+        return sum(2**k for k, node in enumerate(self.nodes) if node in self.filled)
 
 
 def aes_calls(depth):

@@ -5,20 +5,21 @@
 #include "lent.h"
 #include "pat.h"
 
-enum call { FORMAT, READ, WRITE, CHECK, WIPE };
+enum call { FORMAT, READ, WRITE, CHECK, WIPE, PLAN, PUT };
 
-// What a call is given. buffer is a read's buffer or a write's new block.
+// What a call is given. buffer is a read's buffer, the new block of a write or plan, or the tag
+// that is put, whose node is index.
 struct arguments {
     enum call call;
-    const uint8_t *anchor, *card, *buffer, *ranges;
-    size_t anchor_len, card_len, buffer_len, ranges_len;
+    const uint8_t *anchor, *card, *buffer, *ranges, *plan, *messages;
+    size_t anchor_len, card_len, buffer_len, ranges_len, plan_len, messages_len;
     uint64_t index;
 };
 
 // What it leaves.
 struct outcome {
     uint64_t answer;
-    struct lent anchor, card, buffer, ranges;
+    struct lent anchor, card, buffer, ranges, plan, messages;
 };
 
 // A card and its anchor.
@@ -38,13 +39,15 @@ void settle(struct outcome *outcome);
 
 bool all_unchanged(const struct outcome *outcome);
 
-// A freshly formatted store.
+// A freshly formatted store, one some writes later, and a copy of one.
 struct store make_store(unsigned depth);
+struct store used_store(unsigned depth);
+struct store copy_store(const struct store *store);
 
 void drop_store(struct store *store);
 
-// The arguments of a call on a store with all lengths right; a read's buffer and a range buffer
-// have bytes of their own.
+// The arguments of a call on a store with all lengths right; a read's buffer, a range buffer, a
+// plan and messages have bytes of their own. block is the new block, or the tag.
 struct arguments arguments_for(enum call call, const struct store *store, uint64_t index,
                                const uint8_t *block);
 
@@ -64,6 +67,12 @@ struct count count_so_far(void);
 
 // Bytes that differ from seed to seed.
 void fill(uint8_t *bytes, size_t length, uint64_t seed);
+
+// The bytes that a string of hexadecimal digits says, and how many they are.
+size_t unhex(uint8_t *bytes, const char *digits);
+
+// FNV-1a in 64 bits.
+uint64_t digest(const uint8_t *bytes, size_t length);
 
 // The node whose entry has that byte of a card.
 uint64_t owner(unsigned depth, size_t byte);

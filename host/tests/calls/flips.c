@@ -3,7 +3,6 @@
 #include "calls.h"
 #include "tests.h"
 
-#include <stdlib.h>
 #include <string.h>
 
 enum { MOST_NODES = 16 };
@@ -20,7 +19,7 @@ static size_t list_checks(enum call call, unsigned depth, uint64_t index, uint64
     for (unsigned above = depth; above-- > 0;) {
         if (call == READ || above > 0)
             nodes[count++] = leaf >> above;
-        if (call == WRITE)
+        if (call != READ)
             nodes[count++] = leaf >> above ^ 1;
     }
     return count;
@@ -46,22 +45,23 @@ static bool listed(const uint8_t *ranges, unsigned depth, size_t byte) {
     return false;
 }
 
-// An accepted call on an altered card: a read gives the card's block, a write leaves the damage
-// away from its ranges.
+// An accepted call on an altered card: a read gives the card's block, a write and a plan leave the
+// damage away from their ranges.
 static void expect_accepted(const struct outcome *o, const struct arguments *a, unsigned depth,
                             size_t byte) {
     size_t place = start_of(depth, ((uint64_t)1 << depth) + a->index);
     if (a->call == READ)
         expect(memcmp(o->buffer.bytes, a->card + place, PAT_BLOCK_BYTES) == 0,
                "byte %zu: the block read", byte);
-    if (a->call != WRITE)
+    if (a->call != WRITE && a->call != PLAN)
         return;
     expect(memcmp(o->card.bytes + place, a->buffer, PAT_BLOCK_BYTES) == 0,
            "byte %zu: the block written", byte);
     size_t stray = 0;
     for (size_t k = 0; k < a->card_len; k++)
         stray += o->card.bytes[k] != a->card[k] && !listed(o->ranges.bytes, depth, k);
-    expect(stray == 0, "byte %zu: a write changed %zu bytes outside its ranges", byte, stray);
+    expect(stray == 0, "byte %zu: call %d changed %zu bytes outside its ranges", byte, a->call,
+           stray);
 }
 
 // A call on a card as it is, on which the tags of a set of nodes are wrong; byte is for the
@@ -102,6 +102,7 @@ static void try_calls(const struct store *s, const struct store *wiped, uint32_t
     for (uint64_t index = 0; index >> s->depth == 0; index++) {
         try_call(s, READ, index, wrong, byte);
         try_call(s, WRITE, index, wrong, byte);
+        try_call(s, PLAN, index, wrong, byte);
     }
 }
 
@@ -154,11 +155,7 @@ static void try_anchor(struct store *s) {
 
 // The same store after a wipe.
 static struct store wiped_copy(const struct store *s) {
-    struct store copy = *s;
-    copy.card = malloc(s->card_len);
-    if (copy.card == NULL)
-        exit(2);
-    memcpy(copy.card, s->card, s->card_len);
+    struct store copy = copy_store(s);
     must_wipe(&copy);
     return copy;
 }

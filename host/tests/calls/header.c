@@ -52,10 +52,11 @@ static void test_card_bytes(void) {
 // The macros where only a constant expression will do, with arguments that need their brackets, and
 // for no depth. known.h has the numbers of every depth.
 static void test_aes_calls(void) {
-    enum { WIPE_CALLS = PAT_AES_WIPE(1 + 2) };
+    enum { WIPE_CALLS = PAT_AES_WIPE(1 + 2), PLAN_CALLS = PAT_AES_PLAN(2 | 1) };
     static uint8_t reads[PAT_AES_READ(2 | 1)], writes[PAT_AES_WRITE(4 - 1)], all[PAT_AES_CHECK(3)];
     expect(sizeof reads == 10 && sizeof writes == 32 && sizeof all == 53 && WIPE_CALLS == 53,
            "the AES calls as constants");
+    expect(PLAN_CALLS == 14, "the AES calls of a plan as a constant");
     expect(PAT_AES_READ(0) == 0 && PAT_AES_READ(-1) == 0 && PAT_AES_READ(17) == 0 &&
                PAT_AES_READ(UINT64_MAX) == 0,
            "no read without a depth");
@@ -68,10 +69,63 @@ static void test_aes_calls(void) {
     expect(PAT_AES_WIPE(0) == 0 && PAT_AES_WIPE(-1) == 0 && PAT_AES_WIPE(17) == 0 &&
                PAT_AES_WIPE(UINT64_MAX) == 0,
            "no wipe without a depth");
+    expect(PAT_AES_PLAN(0) == 0 && PAT_AES_PLAN(-1) == 0 && PAT_AES_PLAN(17) == 0 &&
+               PAT_AES_PLAN(UINT64_MAX) == 0,
+           "no plan without a depth");
     for (size_t k = 0; k < NO_DEPTHS; k++)
         expect(PAT_AES_READ(no_depths[k]) == 0 && PAT_AES_WRITE(no_depths[k]) == 0 &&
-                   PAT_AES_CHECK(no_depths[k]) == 0 && PAT_AES_WIPE(no_depths[k]) == 0,
+                   PAT_AES_CHECK(no_depths[k]) == 0 && PAT_AES_WIPE(no_depths[k]) == 0 &&
+                   PAT_AES_PLAN(no_depths[k]) == 0,
                "no call is accepted at a depth of %llu", (unsigned long long)no_depths[k]);
+}
+
+// The lengths of a split write's buffers, where only a constant expression will do, and for no
+// depth. known_plans.h has the messages of every depth.
+static void test_split_lengths(void) {
+    static uint8_t least[PAT_MESSAGES_FILLED(2 - 1)], most[PAT_MESSAGES_FILLED(PAT_MAX_DEPTH)];
+    enum { SIX = PAT_MESSAGES(1 | 2) };
+    expect(sizeof least == 146 && sizeof most == PAT_MESSAGES_BYTES && PAT_MESSAGES_BYTES == 656,
+           "the fewest and the most bytes of messages");
+    expect(PAT_PLAN_BYTES == 24 && PAT_TAG_BYTES == 16 && SIX == 6, "plan, tag and messages");
+    expect(PAT_PLAN_INDEX == 0 && PAT_PLAN_ROOT == 8 && PAT_PLAN_FILLED == 16,
+           "places in the plan");
+    expect(PAT_MESSAGES(0) == 0 && PAT_MESSAGES(-1) == 0 && PAT_MESSAGES(17) == 0 &&
+               PAT_MESSAGES_FILLED(0) == 0 && PAT_MESSAGES_FILLED(-1) == 0 &&
+               PAT_MESSAGES_FILLED(17) == 0,
+           "no messages without a depth");
+    for (size_t k = 0; k < NO_DEPTHS; k++)
+        expect(PAT_MESSAGES(no_depths[k]) == 0 && PAT_MESSAGES_FILLED(no_depths[k]) == 0,
+               "no messages at a depth of %llu", (unsigned long long)no_depths[k]);
+}
+
+static void expect_no_message(uint64_t depth, uint64_t index, unsigned k) {
+    struct pat_message m = pat_message(depth, index, k);
+    expect(m.node == 0 && m.start == 0 && m.length == 0, "depth %llu, block %llu has no message %u",
+           (unsigned long long)depth, (unsigned long long)index, k);
+}
+
+static void test_no_messages(void) {
+    for (unsigned depth = 1; depth <= PAT_MAX_DEPTH; depth++) {
+        uint64_t blocks = (uint64_t)1 << depth;
+        const uint64_t absent[] = {blocks,
+                                   2 * blocks,
+                                   ((uint64_t)1 << 32) + 1,
+                                   (uint64_t)1 << 63,
+                                   UINT64_MAX - blocks + 1,
+                                   UINT64_MAX};
+        const unsigned past[] = {2 * depth, 2 * depth + 1, 64, 1u << 31, UINT32_MAX};
+        for (unsigned k = 0; k < 2 * depth; k++) {
+            expect(pat_message(depth, blocks - 1, k).length != 0, "depth %u has message %u", depth,
+                   k);
+            for (size_t j = 0; j < sizeof absent / sizeof *absent; j++)
+                expect_no_message(depth, absent[j], k);
+        }
+        for (size_t j = 0; j < sizeof past / sizeof *past; j++)
+            expect_no_message(depth, 0, past[j]);
+    }
+    for (size_t k = 0; k < NO_DEPTHS; k++)
+        for (unsigned j = 0; j < 3; j++)
+            expect_no_message(no_depths[k], j, j);
 }
 
 // Whether two answers have one sentence; the compiler may not know the first beforehand.
@@ -81,10 +135,10 @@ static bool same_text(uint64_t one, uint64_t other) {
 }
 
 static void test_refusal_text(void) {
-    static const uint64_t strange[] = {9, 15, 255, 256, 257, 5 + 256 * 7, 9 + 256 * 7, UINT64_MAX};
+    static const uint64_t strange[] = {10, 15, 255, 256, 257, 5 + 256 * 7, 9 + 256 * 7, UINT64_MAX};
     for (size_t k = 0; k < sizeof strange / sizeof *strange; k++)
         expect(same_text(strange[k], 100), "%llu is no answer", (unsigned long long)strange[k]);
-    for (unsigned k = PAT_ACCEPTED; k <= PAT_REFUSED_TAG; k++) {
+    for (unsigned k = PAT_ACCEPTED; k <= PAT_REFUSED_NOT_AWAITED; k++) {
         expect(strlen(pat_refusal_text(k)) > 10, "a sentence for %u", k);
         expect(!same_text(k, 100), "%u is an answer", k);
         for (unsigned other = 0; other < k; other++)
@@ -93,6 +147,12 @@ static void test_refusal_text(void) {
     expect(strcmp(pat_refusal_text(PAT_REFUSED_SPENT), "the root nonces are used up") == 0,
            "the sentence for 7");
     expect(same_text(8 + 256 * 6, 8), "8 has its sentence with a node and without");
+    const char *lengths = pat_refusal_text(PAT_REFUSED_LENGTH);
+    expect(strstr(lengths, "anchor has not 32") != NULL &&
+               strstr(lengths, "block not 64") != NULL && strstr(lengths, "plan not 24") != NULL &&
+               strstr(lengths, "messages not 656") != NULL && strstr(lengths, "tag not 16") != NULL,
+           "the sentence for 5 has every length");
+    expect(PAT_REFUSED_NOT_AWAITED == 9, "the number of a tag that is not awaited");
 }
 
 // Every node of small cards, against the blocks that have it on their path.
@@ -162,6 +222,8 @@ void test_header(void) {
     test_numbers();
     test_card_bytes();
     test_aes_calls();
+    test_split_lengths();
+    test_no_messages();
     test_refusal_text();
     test_blocks_under();
     test_no_blocks();

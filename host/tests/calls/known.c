@@ -4,10 +4,9 @@
 #include "tests.h"
 
 #include <stdio.h>
-#include <stdlib.h>
 #include <string.h>
 
-enum kind { START = WIPE + 1 };
+enum kind { START = PUT + 1 };
 
 // A call and what is left after it. argument: the new block, or the block that is read. index: of a
 // start, whether it is on last_card; of a wipe, what the card's other bytes are made from, or 0.
@@ -29,21 +28,6 @@ struct aes_calls {
 };
 
 #include "known.h"
-
-static void unhex(uint8_t *bytes, const char *digits) {
-    for (; *digits != '\0'; digits += 2) {
-        const char pair[] = {digits[0], digits[1], '\0'};
-        *bytes++ = (uint8_t)strtoul(pair, NULL, 16);
-    }
-}
-
-// FNV-1a in 64 bits.
-static uint64_t digest(const uint8_t *bytes, size_t length) {
-    uint64_t value = 0xcbf29ce484222325;
-    for (size_t k = 0; k < length; k++)
-        value = (value ^ bytes[k]) * 0x100000001b3;
-    return value;
-}
 
 static struct store start(const struct row *row) {
     struct store s = make_store(row->depth);

@@ -53,7 +53,12 @@ void lend(struct lent *lent, const uint8_t *bytes, size_t length, enum access ac
 }
 
 bool unchanged(const struct lent *lent) {
-    return memcmp(lent->bytes, lent->before, lent->length) == 0;
+    return unchanged_from(lent, 0);
+}
+
+bool unchanged_from(const struct lent *lent, size_t start) {
+    return lent->memory == NULL ||
+           memcmp(lent->bytes + start, lent->before + start, lent->length - start) == 0;
 }
 
 bool take_back(struct lent *lent) {

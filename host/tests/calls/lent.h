@@ -1,4 +1,5 @@
-// Buffers lent to a call, each in memory of its own that ends where the buffer ends.
+// Buffers lent to a call, each in memory of its own that ends where the buffer ends. A struct of
+// zeros is a buffer that the call does not have.
 #ifndef LENT_H
 #define LENT_H
 
@@ -21,8 +22,9 @@ enum access { READ_ONLY, READ_WRITE };
 // block of the heap, for a tool that watches those.
 void lend(struct lent *lent, const uint8_t *bytes, size_t length, enum access access);
 
-// Whether every byte is as it was lent.
+// Whether every byte is as it was lent, and whether those from a place on are.
 bool unchanged(const struct lent *lent);
+bool unchanged_from(const struct lent *lent, size_t start);
 
 // Gives the memory back; false if a byte before the buffer was changed.
 bool take_back(struct lent *lent);

@@ -16,6 +16,10 @@ static const struct {
     {"bytes and sets of tags altered", test_flips},
     {"histories against a plain array", test_histories},
     {"the write in place against the write", test_in_place},
+    {"known answers of split writes", test_known_plans},
+    {"split writes against writes", test_plans},
+    {"orders of tags, wrong tags and plans given up", test_orders},
+    {"puts under plans of any bytes", test_puts},
 };
 
 int main(void) {

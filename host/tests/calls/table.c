@@ -58,6 +58,7 @@ static unsigned limit(enum call call, uint64_t root, size_t card_len, uint64_t i
     a.card_len = card_len;
     struct outcome o = perform(&a);
     unsigned refusal = pat_refusal(o.answer);
+    expect(o.answer == 0 || all_unchanged(&o), "a refused call changes nothing");
     settle(&o);
     drop_store(&s);
     return refusal;

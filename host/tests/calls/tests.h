@@ -9,5 +9,9 @@ void test_refusals(void);
 void test_flips(void);
 void test_histories(void);
 void test_in_place(void);
+void test_known_plans(void);
+void test_plans(void);
+void test_orders(void);
+void test_puts(void);
 
 #endif
