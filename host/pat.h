@@ -344,8 +344,8 @@ uint64_t pat_wipe(uint8_t *anchor, size_t anchor_len, uint8_t *card, size_t card
 // anchor and with the card's bytes of before, which it has kept or loads anew. The next plan or
 // write takes the same nonces, so no tag of the one given up may have been seen outside the box.
 //
-// A refused call leaves plan and messages as they were. If the plan's bytes are those of an earlier
-// call, they are that plan still: put no tag under it.
+// A refused call leaves plan and messages as they were. Put no tag after it: whatever bytes the
+// plan has, those of an earlier one or zeros, they stand for some plan, which may await that tag.
 //
 // Refused 5: the anchor has not 32 bytes, the plan not 24 or the messages not 656. 1: depth. 2: T.
 // 3: card length. 4: block number. 5: the block has not 64 bytes. 6: range buffer. 7: T is spent.
