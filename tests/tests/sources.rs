@@ -4,8 +4,19 @@
 use std::path::{Path, PathBuf};
 
 /// The crates between the cipher and C.
-const PRODUCT: [&str; 10] = [
-    "cmac", "tree", "card", "stamp", "work", "calls", "plan", "messages", "split", "pat",
+const PRODUCT: [&str; 12] = [
+    "cmac",
+    "tree",
+    "card",
+    "stamp",
+    "work",
+    "calls",
+    "plan",
+    "messages",
+    "split",
+    "host_bytes",
+    "host_split",
+    "pat",
 ];
 
 /// The sources below a directory.
@@ -77,7 +88,14 @@ fn each_call_makes_one_context() {
         assert_eq!(files_with(&call), ["calls/lib.rt"], "{call}");
     }
     assert_eq!(files_with("within::plan("), ["split/lib.rt"]);
-    for part in ["walk::path(", "walk::all(", "stamp::block(", "stamp::blank("] {
+    assert_eq!(files_with("split::plan_in("), ["host_split/lib.rt"]);
+    assert_eq!(files_with("host_split::plan("), ["pat/lib.rt"]);
+    for part in [
+        "walk::path(",
+        "walk::all(",
+        "stamp::block(",
+        "stamp::blank(",
+    ] {
         assert_eq!(files_with(part), ["work/lib.rt"], "{part}");
     }
     let pairs = files_with("walk::pairs(");

@@ -31,9 +31,9 @@ use Rattle.plan.proofs.PlanLaws.{plan-answer, labelsOf, messages-are, given-for
 use Rattle.plan.proofs.PutLaws.{put-in, PutMove, stood, took, put-move, Runs, runs-depth, runs-step, runs-all}
 use Rattle.plan.proofs.OrderLaws.{begun-runs}
 use Rattle.replay.specs.Claim.{Completed}
-use Rattle.pat.specs.Host.{codeOf}
-use Rattle.pat.specs.RoundTrip.{Stands}
-use Rattle.pat.proofs.AnchorLaws.{code-whole, whole-code}
+use Rattle.host_bytes.specs.Host.{codeOf}
+use Rattle.host_bytes.specs.RoundTrip.{Stands}
+use Rattle.host_bytes.proofs.AnchorLaws.{code-whole, whole-code}
 use Rattle.host_replay.specs.Called.{PlanCalled, PutCalled, split, putSteps, Meets}
 use Rattle.host_replay.specs.Plain.{messageFor, PutAt, Filled}
 use Rattle.host_replay.proofs.SplitSteps.{planOn, PutsTold, plan-anchor, plan-codes, split-puts}

@@ -6,7 +6,7 @@ use Prim.Native.Nat.{ℕ}
 use Rattle.tree.specs.Calls.{wipe, isWrite}
 use Rattle.replay.proofs.PlaceLaws.{no-place, at-more, HoldsSince, holds-more, holds-ended}
 use Rattle.replay.proofs.Unforged.{write-not-wipe}
-use Rattle.pat.specs.Host.{anchorOf}
+use Rattle.host_bytes.specs.Host.{anchorOf}
 use Rattle.host_replay.specs.Called.{Called, backOf}
 use Rattle.host_replay.specs.Plain.{called, leftBy, Untouched, WritesUntouched, FilledIn, PlainGoesOn}
 use Rattle.host_replay.proofs.Runs.{turns-run}

@@ -21,10 +21,10 @@ use Rattle.plan.specs.Orders.{Rearranged, inTurn}
 use Rattle.plan.proofs.PlanLaws.{plan-answer, planned-done, labelsOf, given-each, planned-lent}
 use Rattle.plan.proofs.OrderLaws.{filled-anchor, filled-card, turns-placed, turns-right}
 use Rattle.replay.specs.Run.{finished}
-use Rattle.pat.specs.Host.{anchorBytes, anchorOf, codeOf, Host, Hosts, Codes}
-use Rattle.pat.specs.RoundTrip.{Stands}
-use Rattle.pat.proofs.HostLaws.{host-call}
-use Rattle.pat.proofs.AnchorLaws.{code-whole, whole-code}
+use Rattle.host_bytes.specs.Host.{anchorBytes, anchorOf, codeOf, Host, Hosts, Codes}
+use Rattle.host_bytes.specs.RoundTrip.{Stands}
+use Rattle.host_bytes.proofs.HostLaws.{host-call}
+use Rattle.host_bytes.proofs.AnchorLaws.{code-whole, whole-code}
 use Rattle.host_replay.specs.Called.{PlanCalled, PutCalled, split, putSteps, lastAnchor, lastCard, Meets}
 use Rattle.host_replay.specs.Plain.{PutsUntouched, messageFor, PutAt, Filled, InTurn, LikeWrite, SplitGoesOn}
 use Rattle.host_replay.proofs.SplitSteps.{planOn, PutsTold, put-left, plan-anchor, plan-codes, split-puts, split-codes, split-bytes}

@@ -12,7 +12,7 @@ use ghost.Atoms.{Atoms}
 use contract.Monad.{Fun, fact}
 use Rattle.tree.specs.Calls.{read, write, check, wipe}
 use Rattle.plan.specs.Split.{messageRoom}
-use Rattle.pat.specs.Split.{planBytes, tagBytes}
+use Rattle.host_bytes.specs.Split.{planBytes, tagBytes}
 use Rattle.pat.proofs.pat_format.Reads as format-code
 use Rattle.pat.proofs.pat_read.Reads as read-code
 use Rattle.pat.proofs.pat_write.Reads as write-code

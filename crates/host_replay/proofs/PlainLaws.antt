@@ -30,8 +30,8 @@ use Rattle.replay.specs.Claim
 use Rattle.replay.specs.Claim.{Agrees, Accepted, AcceptedWipe, known, AllComplete, Agreement, Forgery}
 use Rattle.replay.proofs.PlaceLaws.{first, later, earlier, mapped, Image, image}
 use Rattle.replay.proofs.Moves.{moved-length, after-key, next-root, after-root}
-use Rattle.pat.specs.Host.{anchorOf, codeOf}
-use Rattle.pat.proofs.AnchorLaws.{code-whole, whole-code}
+use Rattle.host_bytes.specs.Host.{anchorOf, codeOf}
+use Rattle.host_bytes.proofs.AnchorLaws.{code-whole, whole-code}
 use Rattle.host_replay.specs.Called.{Held, bytes, anchorIn, Called, call, split, putSteps, stepOf, steps, backOf, History, Formatted}
 use Rattle.host_replay.specs.Called.{begin}
 use Rattle.host_replay.specs.Called.{Demand3Of}

@@ -11,11 +11,11 @@ use Rattle.plan.specs.Places.{planNodes}
 use Rattle.plan.specs.Split.{noPlan, messageRoom}
 use Rattle.plan.specs.Puts.{PutStep}
 use Rattle.plan.proofs.PutLaws.{put-answer, no-plan-takes}
-use Rattle.pat.specs.Host.{anchorBytes, anchorOf, codeOf, Host, hostCall}
-use Rattle.pat.specs.Split.{bytesOf, hostPlan, HostsPlan, hostPut}
-use Rattle.pat.specs.RoundTrip.{Stands, StandsPlan}
-use Rattle.pat.proofs.AnchorLaws.{code-whole, call-stands}
-use Rattle.pat.proofs.PlanBytesLaws.{bytes-stand, plan-refused, put-told, put-refused}
+use Rattle.host_bytes.specs.Host.{anchorBytes, anchorOf, codeOf, Host, hostCall}
+use Rattle.host_bytes.specs.Split.{bytesOf, hostPlan, HostsPlan, hostPut}
+use Rattle.host_bytes.specs.RoundTrip.{Stands, StandsPlan}
+use Rattle.host_bytes.proofs.AnchorLaws.{code-whole, call-stands}
+use Rattle.host_bytes.proofs.PlanBytesLaws.{bytes-stand, plan-refused, put-told, put-refused}
 use Rattle.host_replay.specs.Called.{Held, bytes, struct, PlanCalled, PutCalled, Called, call, split, putSteps, lastAnchor, lastCard}
 use Rattle.host_replay.specs.Called.{backOf}
 use Rattle.host_replay.specs.Called.{PutsMeet, NonePut, Meets, Handed}

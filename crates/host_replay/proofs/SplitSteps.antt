@@ -19,11 +19,11 @@ use Rattle.tree.specs.declared.Answer.the-variants.{Whole, Wrong, Refused}
 use Rattle.plan.specs.Split.{Planned, planSettled, planned, put}
 use Rattle.plan.specs.Puts.{PutStep, Going, begun, afterPut, afterPuts, EachPut, PutUntouched}
 use Rattle.replay.specs.Run.{finished, splitOutcome}
-use Rattle.pat.specs.Host.{anchorBytes, anchorOf, codeOf, Codes}
-use Rattle.pat.specs.Split.{hostedPlan, HostsPlan}
-use Rattle.pat.specs.RoundTrip.{Stands, StandsPlan}
-use Rattle.pat.proofs.AnchorLaws.{code-whole, whole-code}
-use Rattle.pat.proofs.PlanBytesLaws.{plan-told, plan-stored, put-told, put-stored, put-bytes, put-keeps-root, put-refused}
+use Rattle.host_bytes.specs.Host.{anchorBytes, anchorOf, codeOf, Codes}
+use Rattle.host_bytes.specs.Split.{hostedPlan, HostsPlan}
+use Rattle.host_bytes.specs.RoundTrip.{Stands, StandsPlan}
+use Rattle.host_bytes.proofs.AnchorLaws.{code-whole, whole-code}
+use Rattle.host_bytes.proofs.PlanBytesLaws.{plan-told, plan-stored, put-told, put-stored, put-bytes, put-keeps-root, put-refused}
 use Rattle.host_replay.specs.Called.{PlanCalled, PutCalled, split, putSteps, lastAnchor, lastCard, PutsMeet}
 use Rattle.host_replay.specs.Called.{NonePut, Meets}
 use Rattle.host_replay.specs.Plain.{PutsUntouched}

@@ -16,9 +16,9 @@ use Rattle.replay.proofs.PlaceLaws.{first, later, no-place, at-places}
 use Rattle.replay.proofs.Moves.{next-key}
 use Rattle.replay.proofs.Along.{everywhere}
 use Rattle.replay.proofs.Theorem.{demand3, unforged, afresh}
-use Rattle.pat.specs.Host.{anchorBytes, anchorOf, codeOf, Codes}
-use Rattle.pat.specs.RoundTrip.{Stands}
-use Rattle.pat.proofs.AnchorLaws.{whole-code, call-stands, call-codes, format-whole, format-left, format-stands}
+use Rattle.host_bytes.specs.Host.{anchorBytes, anchorOf, codeOf, Codes}
+use Rattle.host_bytes.specs.RoundTrip.{Stands}
+use Rattle.host_bytes.proofs.AnchorLaws.{whole-code, call-stands, call-codes, format-whole, format-left, format-stands}
 use Rattle.host_replay.specs.Called.{Held, bytes, struct, anchorIn, Back, PlanCalled, PutCalled, Called, call, split, givenTo, stepOf}
 use Rattle.host_replay.specs.Called.{steps, backOf, Says}
 use Rattle.host_replay.specs.Called.{Meets, Handed, History, Formatted, begin, Demand3Of}

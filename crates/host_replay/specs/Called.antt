@@ -15,9 +15,9 @@ use Rattle.replay.specs.Run
 use Rattle.replay.specs.Run.{Step, callOf, State, start, result, after}
 use Rattle.replay.specs.Claim.{Accepted, known, Demand3}
 use Rattle.replay.specs.Tagged.{Unforged, Afresh}
-use Rattle.pat.specs.Host.{anchorOf, hostCall, hostFormat, Hosts, Codes}
-use Rattle.pat.specs.Split.{planBytes, tagBytes, hostPlan, HostsPlan, hostPut, HostsPut}
-use Rattle.pat.specs.RoundTrip.{Stands}
+use Rattle.host_bytes.specs.Host.{anchorOf, hostCall, hostFormat, Hosts, Codes}
+use Rattle.host_bytes.specs.Split.{planBytes, tagBytes, hostPlan, HostsPlan, hostPut, HostsPut}
+use Rattle.host_bytes.specs.RoundTrip.{Stands}
 
 -- The anchor as a function for C has it: bytes, or a struct in memory of the caller's own.
 pub data Held : Type 0 where

@@ -16,7 +16,7 @@ use Rattle.replay.specs.Array.{Told, read, write, check, wipe, Array, zeroed, b
 use Rattle.replay.specs.Places.{Place, Behind}
 use Rattle.replay.specs.Run.{cardOf, callOf, told}
 use Rattle.replay.specs.Claim.{Forgery}
-use Rattle.pat.specs.Host.{anchorBytes, anchorOf, hostCall, Hosts}
+use Rattle.host_bytes.specs.Host.{anchorBytes, anchorOf, hostCall, Hosts}
 use Rattle.host_replay.specs.Called.{anchorIn, PlanCalled, PutCalled, Called, call, split, lastAnchor, lastCard, backOf, stepOf}
 use Rattle.host_replay.specs.Called.{steps, PutsMeet}
 use Rattle.host_replay.specs.Called.{Meets, begin}

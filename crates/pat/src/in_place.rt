@@ -1,10 +1,10 @@
 // The write for boot code on an anchor by value, with the answer as one number.
-use crate::code;
+use host_bytes::code;
 use tree::Anchor;
 use tree::BlockIndex;
 ghost use Rattle.cmac.specs.Cmac.{cmacOf};
 ghost use Rattle.tree.specs.Calls.{write, outcome};
-ghost use Rattle.pat.specs.Host.{Codes};
+ghost use Rattle.host_bytes.specs.Host.{Codes};
 
 // What it answers.
 pub(crate) struct Reply {

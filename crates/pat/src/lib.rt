@@ -3,31 +3,20 @@
 // each, big-endian; the write in place has it as a struct. A plan is 24 bytes: block number, new root nonce and filled places, in the same
 // way. A plan's messages have 656 bytes at every depth, a tag 16. The answer is the refusal's number plus 256 times the node, 0 when
 // accepted. It leaves out how often the cipher was called.
-mod anchor;
-mod code;
 mod in_place;
-mod plan_bytes;
 
+use host_bytes::ANCHOR_BYTES;
+use host_bytes::REFUSED_LENGTH;
+use host_bytes::anchor;
+use host_bytes::code;
 use tree::Anchor;
 use tree::Answer;
 use tree::BlockIndex;
-use tree::Node;
 ghost use mathlib.Core.List.{[]};
 ghost use Rattle.cmac.specs.Cmac.{cmacOf};
 ghost use Rattle.tree.specs.Calls.{read, write, check, wipe, outcome};
-ghost use Rattle.pat.specs.Host.{Hosts, hostCall, hostFormat, Codes};
-ghost use Rattle.pat.specs.Split.{hostPlan, HostsPlan, hostPut, HostsPut};
-
-// How long an anchor, a plan, the messages of a plan and a tag are, and what a call answers to one of another length.
-const ANCHOR_BYTES: usize = 32;
-
-const PLAN_BYTES: usize = 24;
-
-const MESSAGE_BYTES: usize = 656;
-
-const TAG_BYTES: usize = 16;
-
-const REFUSED_LENGTH: u64 = 5;
+ghost use Rattle.host_bytes.specs.Host.{Hosts, hostCall, hostFormat, Codes};
+ghost use Rattle.host_bytes.specs.Split.{hostPlan, HostsPlan, hostPut, HostsPut};
 
 // Formats the card, and sets the anchor's root nonce to 0.
 #[no_mangle]
@@ -159,24 +148,7 @@ pub extern "C" fn pat_plan(
         (now (plan .entry)) (now (messages .entry)))
         r (now (plan .exit)) (now (card .exit)) (now (ranges .exit)) (now (messages .exit)) ⌝ }
 {
-    if anchor.len() != ANCHOR_BYTES {
-        return REFUSED_LENGTH;
-    }
-    if plan.len() != PLAN_BYTES {
-        return REFUSED_LENGTH;
-    }
-    if messages.len() != MESSAGE_BYTES {
-        return REFUSED_LENGTH;
-    }
-    let given = anchor::of(anchor);
-    let planned = split::plan_in(given, card, BlockIndex(index), block, ranges, messages);
-    let answer = planned.answer;
-    let Answer::Whole = answer else {
-        return code::of(answer);
-    };
-    let made = planned.plan;
-    plan_bytes::put(plan, made);
-    0
+    host_split::plan(anchor, card, index, block, ranges, plan, messages)
 }
 
 // Puts one tag of a plan on the card, and notes it in the plan. The last one puts the new root nonce into the anchor.
@@ -192,26 +164,5 @@ pub extern "C" fn pat_put_tag(
         (hostPut (now (anchor .entry)) (now (plan .entry)) (now (card .entry)) node (now (tag .entry)))
         r (now (anchor .exit)) (now (plan .exit)) (now (card .exit)) ⌝ }
 {
-    if anchor.len() != ANCHOR_BYTES {
-        return REFUSED_LENGTH;
-    }
-    if plan.len() != PLAN_BYTES {
-        return REFUSED_LENGTH;
-    }
-    if tag.len() != TAG_BYTES {
-        return REFUSED_LENGTH;
-    }
-    let given = anchor::of(anchor);
-    let kept = plan_bytes::of(plan);
-    let piece = words::bytes_of(words::block_at(tag, 0));
-    let placed = split::put_tag(given, kept, card, Node(node), piece);
-    let answer = placed.answer;
-    let Answer::Whole = answer else {
-        return code::of(answer);
-    };
-    let filled = placed.plan;
-    plan_bytes::put_filled(plan, filled.filled);
-    let moved = placed.anchor;
-    anchor::put_moved(anchor, given.root, moved.root);
-    0
+    host_split::put_tag(anchor, plan, card, node, tag)
 }

@@ -1,8 +1,8 @@
 use mathlib.Core.Bool.{true}
 use denote.Ref.{now}
 use Rattle.tree.proofs.AnswerLaws.{format-node, not-whole}
-use Rattle.pat.specs.Host.{hostFormat}
-use Rattle.pat.proofs.HostLaws.{measured-out, hosted-kept, hosted-moved, host-format}
+use Rattle.host_bytes.specs.Host.{hostFormat}
+use Rattle.host_bytes.proofs.HostLaws.{measured-out, hosted-kept, hosted-moved, host-format}
 use borrow.Author.Needs.{needs}
 use Rattle.pat.proofs.pat_format.Statement.{statement}
 use Rattle.pat.proofs.pat_format.Tie as tie

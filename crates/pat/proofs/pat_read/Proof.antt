@@ -3,8 +3,8 @@ use mathlib.Core.Bool.{false}
 use denote.Ref.{now}
 use Rattle.tree.specs.Calls.{read}
 use Rattle.tree.proofs.AnswerLaws.{node-small}
-use Rattle.pat.specs.Host.{hostCall}
-use Rattle.pat.proofs.HostLaws.{measured-out, hosted-kept, host-call}
+use Rattle.host_bytes.specs.Host.{hostCall}
+use Rattle.host_bytes.proofs.HostLaws.{measured-out, hosted-kept, host-call}
 use borrow.Author.Needs.{needs}
 use Rattle.pat.proofs.pat_read.Statement.{statement}
 use Rattle.pat.proofs.pat_read.Tie as tie

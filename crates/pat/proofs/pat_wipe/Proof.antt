@@ -2,8 +2,8 @@ use mathlib.Core.Bool.{true}
 use denote.Ref.{now}
 use Rattle.tree.specs.Calls.{wipe}
 use Rattle.tree.proofs.AnswerLaws.{node-small, not-whole}
-use Rattle.pat.specs.Host.{hostCall}
-use Rattle.pat.proofs.HostLaws.{measured-out, hosted-kept, hosted-moved, host-call}
+use Rattle.host_bytes.specs.Host.{hostCall}
+use Rattle.host_bytes.proofs.HostLaws.{measured-out, hosted-kept, hosted-moved, host-call}
 use borrow.Author.Needs.{needs}
 use Rattle.pat.proofs.pat_wipe.Statement.{statement}
 use Rattle.pat.proofs.pat_wipe.Tie as tie

@@ -52,7 +52,7 @@ use Rattle.pat.proofs.in_place.Reply as O
 use Rattle.pat.proofs.in_place.Reply.Laws as O′
 use Rattle.cmac.specs.Cmac.{cmacOf}
 use Rattle.tree.specs.Calls.{write, outcome}
-use Rattle.pat.specs.Host.{Codes}
+use Rattle.host_bytes.specs.Host.{Codes}
 use Rattle.pat.proofs.in_place.write as callee
 use Rattle.pat.proofs.in_place.write.Symbol as callee-def
 use Rattle.pat.proofs.in_place.write.Symbol.{name as #pat·in-place·write}

@@ -1,6 +1,6 @@
 use mathlib.Core.Path.{ap, _∙_}
 use Rattle.tree.proofs.AnswerLaws.{node-small}
-use Rattle.pat.specs.Host.{codeOf}
+use Rattle.host_bytes.specs.Host.{codeOf}
 use borrow.Author.Needs.{needs}
 use Rattle.pat.proofs.in_place.write.Statement.{statement}
 use Rattle.pat.proofs.in_place.write.Tie as tie
