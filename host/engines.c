@@ -152,7 +152,6 @@ static struct queue messages_out = {.lock = PTHREAD_MUTEX_INITIALIZER,
                                     .filled = PTHREAD_COND_INITIALIZER};
 static struct queue tags_back = {.lock = PTHREAD_MUTEX_INITIALIZER,
                                  .filled = PTHREAD_COND_INITIALIZER};
-
 static pthread_t engines[ENGINES];
 
 static void give(struct queue *queue, const struct job *job) {

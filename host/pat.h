@@ -337,12 +337,14 @@ uint64_t pat_wipe(uint8_t *anchor, size_t anchor_len, uint8_t *card, size_t card
 // Plan and messages are trusted as the anchor is: whoever can alter them chooses T, or what is
 // tagged. Keep them where nobody else can.
 //
-// Until the last put the card is no card of its anchor: that still has the old T, and tags along
-// the path are wrong under it. So nothing of anchor, plan or card is stored before. Where the last
-// put never comes, the plan is given up: it is thrown away with its tags, those too that are still
-// to come, since a put under it after a later write could set T back. The host goes on with the
-// anchor and with the card's bytes of before, which it has kept or loads anew. The next plan or
-// write takes the same nonces, so no tag of the one given up may have been seen outside the box.
+// Until the last put the card is no card of its anchor: that still has the old T, and tags of
+// whatever is new along the path are wrong under it. So nothing of anchor, plan or card is stored
+// before. Where the last put never comes, the plan is given up: it is thrown away with its tags,
+// those too that are still to come, since a put under it after a later write could set T back. The
+// host goes on with the anchor and with the card's bytes of before, which it has kept or loads
+// anew. The next plan, write or wipe takes the same nonces, so no tag of the plan that was given up
+// may be seen outside the box: with such tags that plan's card could pass under the next anchor,
+// after a wipe too. Where one was seen, format another card with a new key.
 //
 // A refused call leaves plan and messages as they were. Put no tag after it: whatever bytes the
 // plan has, those of an earlier one or zeros, they stand for some plan, which may await that tag.
@@ -360,7 +362,9 @@ uint64_t pat_plan(const uint8_t *anchor, size_t anchor_len, uint8_t *card, size_
 // byte.
 //
 // The tag is not verified. A wrong one is found, and refused with 8, by the next read of a block
-// under its node, by a write or plan that checks that node, and by a check.
+// under its node, by a write or plan that checks that node, and by a check. It stays: a second tag
+// for its node is refused with 9. A host that doubts its engines makes a check after the last put,
+// before it stores anything, and gives the plan up, with the new anchor, if that is refused.
 //
 // It has an answer for a plan of any bytes and looks at no byte of the card. T becomes whatever
 // such a plan says.

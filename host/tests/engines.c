@@ -3,6 +3,7 @@
 //   engines N SEED   N writes, in histories of up to 12; where something differs it says what and
 //                    where, and the status is 1
 //   engines refused  a split write on a spoiled card, which ends with the example's message
+//   engines strayed  one with a tag that its plan does not await, which ends so too
 #define main example
 #include "../engines.c"
 #undef main
@@ -100,12 +101,16 @@ static int compare(unsigned long count, uint64_t seed) {
     return 1;
 }
 
-// Never comes back.
-static void be_refused(void) {
+// The plan is refused, or the first put. Never comes back.
+static void be_refused(bool put) {
     static const uint8_t key[PAT_KEY_BYTES], block[PAT_BLOCK_BYTES];
+    static const struct job strayed = {.node = 1};
     struct store s = make_store(2, key);
     struct cipher cipher = cipher_of(key);
-    s.card[0] ^= 1;
+    if (put)
+        give(&tags_back, &strayed);
+    else
+        s.card[0] ^= 1;
     write_by_engines(&s, &cipher, 0, block);
 }
 
@@ -113,8 +118,8 @@ int main(int count, char **words) {
     unsigned long writes = count == 3 ? strtoul(words[1], NULL, 10) : 0;
     int status = 2;
     switch_on();
-    if (count == 2 && strcmp(words[1], "refused") == 0)
-        be_refused();
+    if (count == 2)
+        be_refused(strcmp(words[1], "strayed") == 0);
     if (writes > 0)
         status = compare(writes, strtoull(words[2], NULL, 10));
     switch_off();

@@ -23,10 +23,14 @@ EOF
 "$example" >"$room/out" || fail 'the example'
 diff "$room/expected" "$room/out" >&2 || fail 'the example prints something else'
 
-status=0
-"$comparing" refused >"$room/out" 2>&1 || status=$?
-[ "$status" -eq 1 ] || fail "a refused plan ends with status $status"
-grep -q -x 'engines: the plan of block 0 is refused, 8: a tag on the card is wrong, that of node 2' "$room/out" ||
-    { cat "$room/out" >&2; fail 'a refused plan is not said'; }
+# ends WORD MESSAGE: with the status 1 and that message.
+ends() {
+    status=0
+    "$comparing" "$1" >"$room/out" 2>&1 || status=$?
+    [ "$status" -eq 1 ] || fail "$1: it ends with status $status"
+    [ "$(cat "$room/out")" = "engines: $2" ] || { cat "$room/out" >&2; fail "$1: it is not said"; }
+}
+ends refused 'the plan of block 0 is refused, 8: a tag on the card is wrong, that of node 2'
+ends strayed 'the tag of node 1 is refused, 9: the plan awaits no tag of that node'
 
 "$comparing" "$writes" 1

@@ -1,4 +1,4 @@
-//! The tags of a plan in every order at depths 1 to 3 and in random orders at every depth: each put beside the reference, and
+//! The tags of a plan in every order at depths 1 to 3 and in random orders at depths 3 to 16: each put beside the reference, and
 //! what the last one leaves beside the write in one.
 
 use tests::call::{Answer, Kind};

@@ -85,6 +85,26 @@ fn beside_the_write() {
     println!("{plans} plans beside their writes");
 }
 
+/// Each tag that a plan checks, wrong by a bit: the plan names its node, as the write does.
+#[test]
+fn names_the_wrong_node() {
+    let mut random = Random::new(0x6e61_6d65);
+    for depth in 1..=16 {
+        let list = List::used(depth, &mut random);
+        let index = random.below(list.blocks() as usize) as u64;
+        for node in paths::write_checks(depth, BlockIndex(index)) {
+            let mut call = list.call(Kind::Plan, index, &mut random);
+            let at = layout::tag(depth, node).start + random.below(16);
+            call.card[at] ^= 1 << random.below(8);
+            let mut write = call.clone();
+            write.kind = Kind::Write;
+            for mut call in [call, write] {
+                assert_eq!(call.both(), Answer::wrong(node.0), "{}", call.short());
+            }
+        }
+    }
+}
+
 /// As long as a tag is missing, a read of the block and a check are refused under the anchor, which is still the old one.
 #[test]
 fn left_unfinished() {

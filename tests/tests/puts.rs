@@ -142,24 +142,41 @@ fn absurd_plans() {
     println!("{refused} puts under plans of no block");
 }
 
+/// How many random puts, so that no depth takes long.
+fn puts(depth: u64) -> u64 {
+    match depth {
+        1..=8 => 3_000,
+        9..=12 => 400,
+        _ => 80,
+    }
+}
+
+/// Any node, most often one of that block's plan; among the others some that are one of these with a bit above more.
+fn any_node(depth: u64, index: u64, random: &mut Random) -> u64 {
+    let own = plans::nodes(depth, index)[random.below(2 * depth as usize)];
+    match random.below(10) {
+        0 => random.below(4 << depth) as u64,
+        1 => random.word(),
+        2 => own | 1 << (depth + 1 + random.below(63 - depth as usize) as u64),
+        3 => [0, 1, 1 << 63][random.below(3)],
+        _ => own,
+    }
+}
+
 /// Plans of 24 random bytes, most of them with a block of the card, and any node, most often one of that block's.
 #[test]
 fn random_plans() {
     let (mut random, mut seen) = (Random::new(0x6279_7465), Seen::default());
-    for depth in (1..=8).chain([16]) {
+    for depth in 1..=16 {
         let list = List::used(depth, &mut random);
-        for _ in 0..if depth < 16 { 3_000 } else { 30 } {
+        for _ in 0..puts(depth) {
             let mut call = list.call(Kind::Put, 0, &mut random);
             call.plan = random.bytes(24);
             let index = random.below(list.blocks() as usize) as u64;
             if random.below(8) != 0 {
                 plans::set_index(&mut call.plan, index);
             }
-            call.node = match random.below(4) {
-                0 => random.below(4 << depth) as u64,
-                1 => random.word(),
-                _ => plans::nodes(depth, index)[random.below(2 * depth as usize)],
-            };
+            call.node = any_node(depth, index, &mut random);
             if random.below(2) == 0 {
                 call.card = random.bytes(list.card.len());
             }
@@ -186,9 +203,9 @@ fn try_again(split: &Split, put: &[(u64, [u8; 16])], seen: &mut Seen) {
 #[test]
 fn filled_twice() {
     let (mut random, mut seen) = (Random::new(0x7477_6963), Seen::default());
-    for depth in 1..=8 {
+    for depth in 1..=16 {
         let mut list = List::used(depth, &mut random);
-        for _ in 0..6 {
+        for _ in 0..if depth < 9 { 6 } else { 1 } {
             let index = random.below(list.blocks() as usize) as u64;
             let (mut split, mut put) = (list.plan(index, &mut random), Vec::new());
             while !split.waiting.is_empty() {

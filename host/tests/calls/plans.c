@@ -101,10 +101,14 @@ static void put_shuffled(struct split *split, const struct store *written, uint6
     }
 }
 
-// One block written both ways; the store goes on with the write's.
+// One block written both ways, in a quarter of the cases the one that is there already; the store
+// goes on with the write's.
 static void both(struct store *s, uint64_t index) {
     uint8_t block[PAT_BLOCK_BYTES];
     fill(block, sizeof block, draw(UINT64_MAX));
+    if (draw(4) == 0)
+        memcpy(block, s->card + start_of(s->depth, ((uint64_t)1 << s->depth) + index),
+               sizeof block);
     struct arguments a = arguments_for(WRITE, s, index, block);
     a.ranges_len += draw(40);
     struct outcome write = perform(&a);

@@ -4,8 +4,7 @@
 
 #include <string.h>
 
-// Block numbers that no card of the depth has; two of them have, with the bits of 2^depth or those
-// above 2^32 lost, the number of a block.
+// Block numbers that no card of the depth has, though all have the low bits of a block's.
 static size_t list_absent(unsigned depth, uint64_t index, uint64_t absent[8]) {
     uint64_t blocks = (uint64_t)1 << depth;
     size_t count = 0;
