@@ -10,4 +10,6 @@ pub mod PutLaws
 pub mod RunLaws
 pub mod TurnLaws
 pub mod OrderLaws
-pub mod RuleLaws
+pub mod WaitLaws
+pub mod PlanRuleLaws
+pub mod PutRuleLaws

@@ -124,7 +124,7 @@ module _ (n i : ℕ) (inside : i < 2 ^ n) where
       rising-parent w (a .level - 1) (subst (λ (y : ℕ). List·Memᴰ w (risingPair n i y)) (sym e) (a .here)) (omega (arith, a .low, a .high))
 
   -- they are a write's pairs
-  plan-child : (w : ℕ) → List·Memᴰ w (planNodes n i) → Child n i inside w
+  pub plan-child : (w : ℕ) → List·Memᴰ w (planNodes n i) → Child n i inside w
   unfolding planNodes
   plan-child w m =
       let a = among n (risingPair n i) w m in

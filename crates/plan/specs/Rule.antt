@@ -1,7 +1,6 @@
 -- What document 02 says of a plan and of a put, sentence by sentence, of the definitions and for every input.
-use Prim.Native.Nat.{ℕ, _+_, _*_, _<_}
+use Prim.Native.Nat.{ℕ, _+_, _*_, _/_, _%_, _^_, _<_}
 use mathlib.Core.Path.{_≡_}
-use mathlib.Core.Bool.{true, false}
 use mathlib.Core.List.{List, [], _∷_, _++_, map, List·Memᴰ}
 use mathlib.Core.Option.{none, some}
 use lib.ListN.{length}
@@ -16,7 +15,6 @@ use Rattle.tree.specs.declared.Anchor.{Anchor}
 use Rattle.tree.specs.declared.Refusal.{Refusal}
 use Rattle.tree.specs.declared.Refusal.the-variants.{NotAwaited}
 use Rattle.tree.specs.declared.Answer.the-variants.{Whole, Refused}
-use Rattle.plan.specs.Places.{awaits}
 use Rattle.plan.specs.Split.{Given, Planned, planned, joined, Put, put}
 use Rattle.plan.specs.declared.Plan.{Plan}
 
@@ -24,6 +22,15 @@ use Rattle.plan.specs.declared.Plan.{Plan}
 abbrev pub Rising : List ℕ → Type 0
 Rising [] = Unit {0}
 Rising (u ∷ us) = ((w : ℕ) → List·Memᴰ w us → u < w) × Rising us
+
+-- A plan waits for the tag of u, by numbers alone: it is for a block of the card, u is a child of u_level, and u's bit is not set. The 2n
+-- nodes have a bit each, from the lowest on in rising number: a child of u_level has bit 2 level, and 2 level + 1 on the right.
+pub record Waits (n : ℕ) (p : Plan) (u : ℕ) : Type 0 where
+  pub inside : p .index .0 < 2 ^ n
+  pub level : ℕ
+  pub high : level < n
+  pub child : u / 2 ≡ pathNode n (p .index .0) level
+  pub unset : p .filled / 2 ^ (2 * level + u % 2) % 2 ≡ 0
 
 -- the nodes of messages
 abbrev pub nodesOf : List Given → List ℕ
@@ -57,9 +64,10 @@ module _ (F : List ℕ → List ℕ) (a : Anchor) (card : List ℕ) (i : ℕ) (b
         part (joined (o .messages)) (34 * y + (size (a .depth) u + 9)) (size (a .depth) u + 9)
         ≡ message (labels (a .depth) (a .root .0 + a .depth) (outcome F a card (write i block ranges) .card)) u
     pub all-bytes : length (joined (o .messages)) ≡ 34 * a .depth + 112
-    -- the plan waits for the tag of each of them, and for no other
-    pub waits : (u : ℕ) → List·Memᴰ u (nodesOf (o .messages)) → awaits (a .depth) (o .plan) u ≡ true
-    pub waits-only : (u : ℕ) → awaits (a .depth) (o .plan) u ≡ true → List·Memᴰ u (nodesOf (o .messages))
+    -- the plan has the block's number and the new root nonce, and no tag; it waits for the tag of each of them, and for no other
+    pub made : o .plan ≡ record { index = record { 0 = i }; root = record { 0 = a .root .0 + a .depth }; filled = 0 }
+    pub waits : (u : ℕ) → List·Memᴰ u (nodesOf (o .messages)) → Waits (a .depth) (o .plan) u
+    pub waits-only : (u : ℕ) → Waits (a .depth) (o .plan) u → List·Memᴰ u (nodesOf (o .messages))
     -- it counts what it checks: with the messages that the engines tag, this is what the write counts
     pub counted : outcome F a card (write i block ranges) .counted ≡ o .call .counted ++ tagged a card (write i block ranges)
 
@@ -79,26 +87,28 @@ module _ (F : List ℕ → List ℕ) (a : Anchor) (card : List ℕ) (i : ℕ) (b
 module _ (a : Anchor) (p : Plan) (card : List ℕ) (u : ℕ) (x : List ℕ) where
   -- Of an accepted put o.
   pub record Taken (o : Put) : Type 0 where
+    -- the plan waited for it
+    pub waited : Waits (a .depth) p u
     -- "each put on the card in its own step": the tag stands at its node, and nothing else of the card is new
     pub tag-new : length x ≡ 16 → tag (a .depth) (o .card) u ≡ x
     pub tags-kept : length x ≡ 16 → (w : ℕ) → IsNode (a .depth) w → (w ≡ u → ⊥) → tag (a .depth) (o .card) w ≡ tag (a .depth) card w
     pub labels-kept : length x ≡ 16 → (w : ℕ) → IsNode (a .depth) w → label (a .depth) (o .card) w ≡ label (a .depth) card w
     -- its place alone is filled: the plan waits no more for this tag, and for the others as before
-    pub once : awaits (a .depth) (o .plan) u ≡ false
-    pub others-waited : (w : ℕ) → awaits (a .depth) p w ≡ true → (w ≡ u → ⊥) → awaits (a .depth) (o .plan) w ≡ true
-    pub others-not : (w : ℕ) → awaits (a .depth) p w ≡ false → awaits (a .depth) (o .plan) w ≡ false
-    -- the plan stays one for its block and root nonce
+    pub once : Waits (a .depth) (o .plan) u → ⊥
+    pub others-waited : (w : ℕ) → Waits (a .depth) p w → (w ≡ u → ⊥) → Waits (a .depth) (o .plan) w
+    pub others-not : (w : ℕ) → Waits (a .depth) (o .plan) w → Waits (a .depth) p w
+    -- the plan stays one for its block and root nonce, and of its bits u's alone is new
     pub same-plan : (o .plan .index ≡ p .index) × (o .plan .root ≡ p .root)
+    pub noted : o .plan .filled ≡ p .filled + 2 ^ (2 * waited .level + u % 2)
     -- "and the last brings the new anchor": where the plan waits for no tag more; every other hands back the anchor as it was
-    pub last : ((w : ℕ) → awaits (a .depth) (o .plan) w ≡ false) → o .anchor ≡ rooted a (p .root .0)
-    pub not-last : (w : ℕ) → awaits (a .depth) (o .plan) w ≡ true → o .anchor ≡ a
+    pub last : ((w : ℕ) → Waits (a .depth) (o .plan) w → ⊥) → o .anchor ≡ rooted a (p .root .0)
+    pub not-last : (w : ℕ) → Waits (a .depth) (o .plan) w → o .anchor ≡ a
 
   pub record PutRule : Type 0 where
     -- 1, 2 and 3 are tested first, and then 9, "a mark for a place that isn't in the plan or is already filled"
     pub limited : (r : Refusal) → firstFailing (firstLimits a (length card)) ≡ some r → put a p card u x .answer ≡ Refused r
-    pub nine : firstFailing (firstLimits a (length card)) ≡ none → awaits (a .depth) p u ≡ false
-        → put a p card u x .answer ≡ Refused NotAwaited
-    pub taken : firstFailing (firstLimits a (length card)) ≡ none → awaits (a .depth) p u ≡ true → put a p card u x .answer ≡ Whole
+    pub nine : firstFailing (firstLimits a (length card)) ≡ none → (Waits (a .depth) p u → ⊥) → put a p card u x .answer ≡ Refused NotAwaited
+    pub taken : firstFailing (firstLimits a (length card)) ≡ none → Waits (a .depth) p u → put a p card u x .answer ≡ Whole
     -- whose number is 9
     pub nine-number : refusalNumber NotAwaited ≡ 9
     -- "nothing changes"

@@ -29,7 +29,8 @@ use Rattle.plan.proofs.PlaceLaws.{plan-node}
 use Rattle.plan.proofs.PlanLaws.{plan-answer, planned-refused, messages-are, planned-counted}
 use Rattle.plan.proofs.OrderLaws.{orders}
 use Rattle.plan.specs.Orders.{Rearranged}
-use Rattle.plan.proofs.RuleLaws.{nodes-are, plan-rule, put-rule}
+use Rattle.plan.proofs.PlanRuleLaws.{nodes-are, plan-rule}
+use Rattle.plan.proofs.PutRuleLaws.{put-rule}
 use Rattle.scope.specs.CountRule.{count}
 use Rattle.scope.specs.SplitRule.{split, planCount, enginesCount, SplitRule}
 use Rattle.scope.proofs.CountRule.{count-rule}

@@ -1,47 +1,42 @@
--- What document 02 says of a plan and of a put.
+-- What document 02 says of a plan.
 use mathlib.Core.Path.{_≡_, refl, sym, ap, ap₂, subst, _∙_}
-use mathlib.Core.Bool.{Bool, true, false, cond}
 use mathlib.Core.List.{List, [], _∷_, map, List·Memᴰ}
-use mathlib.Core.Logic.{inr, ⊎-elim}
+use mathlib.Core.Logic.{inr}
 use mathlib.Core.Option.{Option, none, some}
 use Prim.Native.Nat.{ℕ, suc, _+_, _*_, _/_, _^_, _<_}
 use native.Mathlib.Omega.{arith}
 use lib.ListN.{length}
 use Rattle.words.specs.Bytes.{part}
-use Rattle.words.proofs.Cases.{equal-or-not}
 use Rattle.tree.specs.Layout.{IsNode, size, label}
 use Rattle.tree.specs.Nodes.{pathNode}
 use Rattle.tree.specs.Labels.{Labels, message, labels}
 use Rattle.tree.specs.Card.{written, firstWrong}
 use Rattle.tree.specs.Limits.{firstFailing}
-use Rattle.tree.specs.Calls.{Call, write, limits, checks, verdict, rooted, Outcome, answerOf, checkedBy, outcome}
+use Rattle.tree.specs.Calls.{Call, write, limits, checks, verdict, Outcome, answerOf, checkedBy, outcome}
 use Rattle.tree.specs.declared.Anchor.{Anchor}
-use Rattle.tree.specs.declared.Answer.{Answer}
 use Rattle.tree.specs.declared.Answer.the-variants.{Whole, Wrong}
-use Rattle.tree.specs.declared.BlockIndex.{BlockIndex}
 use Rattle.tree.specs.declared.Refusal.{Refusal}
-use Rattle.tree.proofs.LimitLaws.{Writes, first-passed}
+use Rattle.tree.proofs.LimitLaws.{Writes}
 use Rattle.tree.proofs.ByteLaws.{length-be}
 use Rattle.tree.proofs.NodeLaws.{path-parent, child-node}
 use Rattle.tree.proofs.LabelLaws.{Sized, labels-below, labels-sized, new-root, new-sized}
 use Rattle.tree.proofs.WriteLaws.{written-labels, written-message}
 use Rattle.tree.proofs.EnoughLaws.{found-same}
 use Rattle.tree.proofs.CallLaws.{accepted, outcome-answer, outcome-done}
-use Rattle.plan.specs.Places.{planNodes, filledAt, awaits, fill, full}
+use Rattle.plan.specs.Places.{planNodes, full}
 use Rattle.plan.specs.Split.{Given, given, Planned, noPlan, planDone, planSettled, planned, joined}
-use Rattle.plan.specs.Split.{Put, putDone, putSettled, putAnswer, put}
-use Rattle.plan.specs.Rule.{nodesOf, Laid, PlanRule, Taken, PutRule}
+use Rattle.plan.specs.Split.{put}
+use Rattle.plan.specs.Rule.{nodesOf, Laid, PlanRule}
 use Rattle.plan.specs.declared.Plan.{Plan}
-use Rattle.plan.proofs.PlaceLaws.{Awaited, awaited, is-awaited, fill-same, fill-other, none-filled, plan-pairs, pairs-plan}
+use Rattle.plan.proofs.PlaceLaws.{none-filled, plan-pairs, pairs-plan}
 use Rattle.plan.proofs.PlaceLaws.{plan-node, plan-count}
-use Rattle.plan.proofs.ListLaws.{truth, contrary}
-use Rattle.plan.proofs.PlaceLaws.{is-full, awaited-not-full, waits-not}
+use Rattle.plan.proofs.WaitLaws.{awaited-waits, waits-awaited}
 use Rattle.plan.proofs.MessageLaws.{twin-size, messages-length, lower-stands, upper-stands}
 use Rattle.plan.proofs.PlanLaws.{plan-answer, planned-done, planned-refused, messages-are, nodes-given, labelsOf, given-for}
 use Rattle.plan.proofs.PlanLaws.{given-rising}
 use Rattle.plan.proofs.PlanLaws.{planned-labels, planned-tags, planned-lent, planned-counted}
-use Rattle.plan.proofs.PutLaws.{put-in, put-accept, put-first, put-nine, put-answer, put-unchanged, put-tag, put-labels}
-use Rattle.plan.proofs.PutLaws.{put-others, no-plan-takes}
+use Rattle.plan.proofs.PutLaws.{put-answer}
+use Rattle.plan.proofs.PutLaws.{no-plan-takes}
 
 module _ (F : List ℕ → List ℕ) (F16 : (m : List ℕ) → length (F m) ≡ 16) (a : Anchor) (card : List ℕ) (i : ℕ) (block ranges : List ℕ) where
   module _ (whole : answerOf F a card (write i block ranges) ≡ Whole) where
@@ -97,11 +92,11 @@ module _ (F : List ℕ → List ℕ) (F16 : (m : List ℕ) → length (F m) ≡ 
     size-here y h w e = twin-size n (pathNode n i (suc y)) w (ok .sound .deep) (e ∙ sym (half-is y h))
 
     -- what its plan is
-    index-is : o .plan .index .0 ≡ i
-    index-is = ap (λ (q : Planned). q .plan .index .0) (planned-done F a card i block ranges whole)
+    made : o .plan ≡ record { index = record { 0 = i }; root = record { 0 = a .root .0 + n }; filled = 0 }
+    made = ap (λ (q : Planned). q .plan) (planned-done F a card i block ranges whole)
 
-    empty : o .plan .filled ≡ 0
-    empty = ap (λ (q : Planned). q .plan .filled) (planned-done F a card i block ranges whole)
+    index-is : o .plan .index .0 ≡ i
+    index-is = ap (λ (q : Plan). q .index .0) made
 
     laid-so : Laid F a card i block ranges (planned F a card i block ranges)
     laid-so =
@@ -134,13 +129,15 @@ module _ (F : List ℕ → List ℕ) (F16 : (m : List ℕ) → length (F m) ≡ 
               ∙ upper-stands n i (ok .inside) (ok .sound .deep) L sized root-long y h
               ∙ ap (λ (w : ℕ). message L (2 * w + 1)) (half-is y h) ∙ on-card u (child y h u (omega arith));
           all-bytes = ap length joined-is ∙ messages-length n i (ok .inside) (ok .sound .deep) L sized root-long;
+          made = made;
           waits = λ u m.
-              is-awaited n (o .plan) u (record {
+              awaited-waits n (o .plan) u (record {
                 inside = subst (λ (j : ℕ). j < 2 ^ n) (sym index-is) (ok .inside);
                 among = subst (λ (j : ℕ). List·Memᴰ u (planNodes n j)) (sym index-is) (among u m);
-                unfilled = none-filled n (o .plan) empty u;
+                unfilled = none-filled n (o .plan) (ap (λ (q : Plan). q .filled) made) u;
               });
-          waits-only = λ u e. among-back u (subst (λ (j : ℕ). List·Memᴰ u (planNodes n j)) index-is (awaited n (o .plan) u e .among));
+          waits-only = λ u h.
+              among-back u (subst (λ (j : ℕ). List·Memᴰ u (planNodes n j)) index-is (waits-awaited n (o .plan) u h .among));
           counted = planned-counted F a card i block ranges whole;
         }
       where
@@ -219,98 +216,4 @@ module _ (F : List ℕ → List ℕ) (F16 : (m : List ℕ) → length (F m) ≡ 
                   ∙ subst (λ (p : Plan). put b p other u x .answer ≡ Whole) (ap (λ (q : Planned). q .plan) e) w),
             );
         accepted = λ w. laid-so (sym (plan-answer F a card i block ranges) ∙ w);
-      }
-
-module _ (a : Anchor) (p : Plan) (card : List ℕ) (u : ℕ) (x : List ℕ) where
-  done-is : putAnswer a p card u ≡ Whole → put a p card u x ≡ putDone a p card u x
-  unfolding put
-  done-is e = ap (λ (o : Answer). putSettled o a p card u x) e
-
-  module _ (e : putAnswer a p card u ≡ Whole) where
-    waiting : Awaited (a .depth) p u
-    waiting = put-in a p card u e .1
-
-    plan-is : put a p card u x .plan ≡ fill (a .depth) p u
-    plan-is = ap (λ (o : Put). o .plan) (done-is e)
-
-    anchor-is : put a p card u x .anchor ≡ cond (full (a .depth) (put a p card u x .plan)) (rooted a (p .root .0)) a
-    anchor-is =
-        ap (λ (o : Put). o .anchor) (done-is e)
-        ∙ ap (λ (q : Plan). cond (full (a .depth) q) (rooted a (p .root .0)) a) (sym plan-is)
-
-    -- a place that waits still does
-    waits-on : (w : ℕ) → awaits (a .depth) p w ≡ true → (w ≡ u → ⊥) → awaits (a .depth) (fill (a .depth) p u) w ≡ true
-    unfolding fill
-    waits-on w h d =
-        let k = awaited (a .depth) p w h in
-        is-awaited (a .depth) (fill (a .depth) p u) w (record {
-          inside = k .inside;
-          among = k .among;
-          unfilled = fill-other (a .depth) p u w (waiting .unfilled) (waiting .among) (k .among) d ∙ k .unfilled;
-        })
-
-    -- and no other does
-    taken-once : Awaited (a .depth) (fill (a .depth) p u) u → ⊥
-    taken-once k = contrary (fill-same (a .depth) p u (waiting .unfilled)) (k .unfilled)
-
-    still-not : (w : ℕ) → awaits (a .depth) p w ≡ false → Awaited (a .depth) (fill (a .depth) p u) w → ⊥
-    unfolding fill
-    still-not w f k =
-        ⊎-elim (λ (e : w ≡ u). taken-once (subst (λ (v : ℕ). Awaited (a .depth) (fill (a .depth) p u) v) e k))
-        (λ (d : w ≡ u → ⊥).
-        contrary
-        (is-awaited (a .depth) p w (record {
-          inside = k .inside;
-          among = k .among;
-          unfilled = sym (fill-other (a .depth) p u w (waiting .unfilled) (waiting .among) (k .among) d) ∙ k .unfilled;
-        })) f)
-        (equal-or-not w u)
-
-    kept-plan : (put a p card u x .plan .index ≡ p .index) × (put a p card u x .plan .root ≡ p .root)
-    unfolding fill
-    kept-plan = (ap (λ (q : Plan). q .index) plan-is, ap (λ (q : Plan). q .root) plan-is)
-
-    -- where nothing is awaited every place is filled
-    nothing-awaited : ((w : ℕ) → awaits (a .depth) (put a p card u x .plan) w ≡ false) → full (a .depth) (put a p card u x .plan) ≡ true
-    nothing-awaited free =
-        let q = put a p card u x .plan in
-        is-full (a .depth) q (λ w m.
-        ⊎-elim (λ (e : filledAt (a .depth) q w ≡ true). e)
-        (λ (e : filledAt (a .depth) q w ≡ false).
-        contrary
-        (is-awaited (a .depth) q w (record {
-          inside = subst (λ (j : BlockIndex). j .0 < 2 ^ a .depth) (sym (kept-plan .0)) (waiting .inside);
-          among = m;
-          unfilled = e;
-        })) (free w))
-        (truth (filledAt (a .depth) q w)))
-
-    taken-so : Taken a p card u x (put a p card u x)
-    taken-so =
-        record {
-          tag-new = λ l. put-tag a p card u x l e;
-          tags-kept = λ l. put-others a p card u x l e;
-          labels-kept = λ l. put-labels a p card u x l e;
-          once = ap (λ (q : Plan). awaits (a .depth) q u) plan-is ∙ waits-not (a .depth) (fill (a .depth) p u) u taken-once;
-          others-waited = λ w h d. ap (λ (q : Plan). awaits (a .depth) q w) plan-is ∙ waits-on w h d;
-          others-not = λ w h.
-              ap (λ (q : Plan). awaits (a .depth) q w) plan-is ∙ waits-not (a .depth) (fill (a .depth) p u) w (still-not w h);
-          same-plan = kept-plan;
-          last = λ free. anchor-is ∙ ap (λ (b : Bool). cond b (rooted a (p .root .0)) a) (nothing-awaited free);
-          not-last = λ w h.
-              anchor-is ∙ ap (λ (b : Bool). cond b (rooted a (p .root .0)) a)
-              (awaited-not-full (a .depth) (put a p card u x .plan) w (awaited (a .depth) (put a p card u x .plan) w h));
-        }
-
-  pub put-rule : PutRule a p card u x
-  put-rule =
-      record {
-        limited = λ r e. put-answer a p card u x ∙ put-first a p card u r e;
-        nine = λ e f. put-answer a p card u x ∙ put-nine a p card u (first-passed a card e) f;
-        nine-number = refl;
-        taken = λ e f. put-answer a p card u x ∙ put-accept a p card u (first-passed a card e) (awaited (a .depth) p u f);
-        refused = λ d.
-            let k = put-unchanged a p card u x (λ w. d (put-answer a p card u x ∙ w)) in
-            (k .anchor-same, k .plan-same, k .card-same);
-        accepted = λ w. taken-so (sym (put-answer a p card u x) ∙ w);
       }
