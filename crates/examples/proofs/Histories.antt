@@ -9,7 +9,7 @@ use Rattle.tree.specs.Numbers.{be}
 use Rattle.tree.specs.Layout.{size, offset, cardLength, label, tag}
 use Rattle.tree.specs.Nodes.{upTo, pathNode, sibling, path, pairs, pairsButLeaf, allNodes}
 use Rattle.tree.specs.Labels.{form, labels, blankLabels, raised, newLabels}
-use Rattle.tree.specs.Card.{laid, stamped, blanked, written, firstWrong}
+use Rattle.tree.specs.Card.{putEach, laid, stamped, blanked, written, firstWrong}
 use Rattle.tree.specs.Ranges.{rangesTo, encode}
 use Rattle.tree.specs.Limits.{firstFailing}
 use Rattle.tree.specs.Calls.{Call, read, write, check, wipe, limits, checks, formatAnswer, answerOf, outcome, format}
@@ -99,7 +99,7 @@ refusedAt block oldRead oldCheck mixedRead mixedCheck =
 pub computed : (history 1 0 2 3 ≡ refusedAt newBlock 2 2 2 2)
     × (history 2 2 3 6 ≡ refusedAt newBlock 3 2 3 3)
     × (history 3 5 6 13 ≡ refusedAt newBlock 3 2 6 6)
-unfolding start next moved format formatAnswer zeroed limits firstFailing checks outcome answerOf firstWrong blanked written stamped
+unfolding start next moved format formatAnswer zeroed limits firstFailing checks outcome answerOf firstWrong blanked written stamped putEach
     labels blankLabels newLabels raised allNodes upTo pathNode sibling path pairs pairsButLeaf be size offset label tag form same rangesTo
     encode
 computed = (refl, refl, refl)
@@ -108,7 +108,7 @@ computed = (refl, refl, refl)
 pub wipe-computed : (wipedHistory 1 0 2 3 ≡ refusedAt zeroBlock 2 2 2 2)
     × (wipedHistory 2 2 3 6 ≡ refusedAt zeroBlock 3 2 3 3)
     × (wipedHistory 3 5 6 13 ≡ refusedAt zeroBlock 3 2 6 6)
-unfolding start next moved format formatAnswer zeroed limits firstFailing checks outcome answerOf firstWrong blanked written stamped
+unfolding start next moved format formatAnswer zeroed limits firstFailing checks outcome answerOf firstWrong blanked written stamped putEach
     labels blankLabels newLabels raised allNodes upTo pathNode sibling path pairs pairsButLeaf be size offset label tag form same rangesTo
     encode
 wipe-computed = (refl, refl, refl)
@@ -123,7 +123,7 @@ spoiled = next checksum (formatted 2) (call altered (writing 2 0))
 -- It is accepted, and a check of the card that it left names node 7.
 pub touched-computed : (answer (formatted 2 .store .anchor) altered (writing 2 0) ≡ Whole)
     × (answer (spoiled .store .anchor) (spoiled .store .left) check ≡ Wrong (record { 0 = 7 }))
-unfolding start next moved format formatAnswer zeroed limits firstFailing checks outcome answerOf firstWrong blanked written stamped
+unfolding start next moved format formatAnswer zeroed limits firstFailing checks outcome answerOf firstWrong blanked written stamped putEach
     labels blankLabels newLabels raised allNodes upTo pathNode sibling path pairs pairsButLeaf be size offset label tag form same rangesTo
     encode
 touched-computed = (refl, refl)
@@ -132,7 +132,7 @@ touched-computed = (refl, refl)
 pub refused-computed : let s = next checksum spoiled (call (0 ∷ []) wipe) in
     (answer (spoiled .store .anchor) (0 ∷ []) wipe ≡ Refused CardLength)
     × (answer (s .store .anchor) (s .store .left) check ≡ Wrong (record { 0 = 7 }))
-unfolding start next moved format formatAnswer zeroed limits firstFailing checks outcome answerOf firstWrong blanked written stamped
+unfolding start next moved format formatAnswer zeroed limits firstFailing checks outcome answerOf firstWrong blanked written stamped putEach
     labels blankLabels newLabels raised allNodes upTo pathNode sibling path pairs pairsButLeaf be size offset label tag form same rangesTo
     encode
 refused-computed = (refl, refl)
@@ -140,7 +140,7 @@ refused-computed = (refl, refl)
 -- and one that is accepted mends it.
 pub mended-computed : let s = next checksum spoiled (call (spoiled .store .left) wipe) in
     answer (s .store .anchor) (s .store .left) check ≡ Whole
-unfolding start next moved format formatAnswer zeroed limits firstFailing checks outcome answerOf firstWrong blanked written stamped
+unfolding start next moved format formatAnswer zeroed limits firstFailing checks outcome answerOf firstWrong blanked written stamped putEach
     labels blankLabels newLabels raised allNodes upTo pathNode sibling path pairs pairsButLeaf be size offset label tag form same rangesTo
     encode
 mended-computed = refl
@@ -179,7 +179,7 @@ pub split-computed : let s = formatted 2 .store in
     × (o .call .answer ≡ Whole)
     × (roots g (twice tagsBack) ≡ 0 ∷ 0 ∷ 0 ∷ 0 ∷ 2 ∷ [])
     × (put (s .anchor) (fill 2 (o .plan) 6) (s .left) 6 (replicate 16 0) .answer ≡ Refused NotAwaited)
-unfolding start next moved format formatAnswer zeroed limits firstFailing checks outcome answerOf firstWrong blanked written stamped
+unfolding start next moved format formatAnswer zeroed limits firstFailing checks outcome answerOf firstWrong blanked written stamped putEach
     labels blankLabels newLabels raised allNodes upTo pathNode sibling path pairs pairsButLeaf be size offset label tag form same rangesTo
     encode planned put putAnswer planNodes member every placeIn awaits fill full laid afterPut afterPuts messageFor inTurn
 split-computed = (refl, refl, refl, refl)
@@ -200,7 +200,7 @@ meddled =
 
 pub meddled-computed : (meddled .store .anchor .root .0 ≡ 2) × (blockAt (meddled .store .array) 2 ≡ newBlock)
     × (answer (meddled .store .anchor) (meddled .store .left) check ≡ Wrong (record { 0 = 5 }))
-unfolding start next moved format formatAnswer zeroed limits firstFailing checks outcome answerOf firstWrong blanked written stamped
+unfolding start next moved format formatAnswer zeroed limits firstFailing checks outcome answerOf firstWrong blanked written stamped putEach
     labels blankLabels newLabels raised allNodes upTo pathNode sibling path pairs pairsButLeaf be size offset label tag form same rangesTo
     encode planned put putAnswer planNodes member every placeIn awaits fill full laid afterPut afterPuts messageFor inTurn
 meddled-computed = (refl, refl, refl)

@@ -10,7 +10,7 @@ use Rattle.words.specs.Bytes.{part}
 use Rattle.words.proofs.Cases.{equal-or-not}
 use Rattle.tree.specs.Layout.{IsNode, size, offset, cardLength, label, tag}
 use Rattle.tree.specs.Labels.{Labels}
-use Rattle.tree.specs.Card.{laid}
+use Rattle.tree.specs.Card.{putEach, laid}
 use Rattle.tree.proofs.ByteLaws.{part-sets-apart}
 use Rattle.tree.proofs.LayoutLaws.{AllNodes, entry-apart, entry-fits}
 use Rattle.tree.proofs.LabelLaws.{Sized}
@@ -44,7 +44,7 @@ module _ (n : ℕ) (L : Labels) (sized : Sized n L) where
   -- a card shows a node's label where it was there before, or was put
   pub laid-label : (us : List ℕ) → AllNodes n us → (card : List ℕ) → length card ≡ cardLength n → (u : ℕ) → IsNode n u
       → (label n card u ≡ L u) ⊎ List·Memᴰ u us → label n (laid n L us card) u ≡ L u
-  unfolding laid
+  unfolding laid putEach
   laid-label [] nodes card full u h (inl e) = e
   laid-label [] nodes card full u h (inr m) = absurd (List·Memᴰ·not-nil m)
   laid-label (w ∷ us) nodes card full u h o =
@@ -62,7 +62,7 @@ module _ (n : ℕ) (L : Labels) (sized : Sized n L) where
 
   -- every tag stays
   pub laid-tag : (us : List ℕ) → AllNodes n us → (card : List ℕ) (u : ℕ) → IsNode n u → tag n (laid n L us card) u ≡ tag n card u
-  unfolding laid tag
+  unfolding laid putEach tag
   laid-tag [] nodes card u h = refl
   laid-tag (w ∷ us) nodes card u h =
       let hw = nodes w (List·Memᴰ·head refl) in
@@ -75,7 +75,7 @@ module _ (n : ℕ) (L : Labels) (sized : Sized n L) where
   -- a tag can be put before the labels or behind them
   pub laid-past : (us : List ℕ) → AllNodes n us → (u : ℕ) → IsNode n u → (x : List ℕ) → length x ≡ 16 → (card : List ℕ)
       → laid n L us (sets card (offset n u + size n u) x) ≡ sets (laid n L us card) (offset n u + size n u) x
-  unfolding laid
+  unfolding laid putEach
   laid-past [] nodes u h x e card = refl
   laid-past (w ∷ us) nodes u h x e card =
       let hw = nodes w (List·Memᴰ·head refl) in

@@ -3,7 +3,7 @@ use mathlib.Core.Path.{_≡_, refl, sym, ap, subst, _∙_}
 use mathlib.Core.Bool.{Bool, true, false, cond}
 use mathlib.Core.List.{List, [], _∷_, _++_, map, List·Memᴰ, List·Memᴰ·head, List·Memᴰ·tail, List·Memᴰ·cases-cons, List·Memᴰ·not-nil}
 use mathlib.Core.Logic.{_⊎_, inl, inr, ⊎-elim}
-use Prim.Native.Nat.{ℕ, _+_}
+use Prim.Native.Nat.{ℕ, _+_, _^_, _<_}
 use native.Mathlib.Omega.{arith}
 use borrow.Author.Tests.{eqb-true, eqb-false}
 use lib.Dec.{eqb}
@@ -23,10 +23,12 @@ use Rattle.plan.specs.Split.{given, Planned, planned}
 use Rattle.plan.specs.Puts.{PutStep, begun, afterPuts, Placed, EachPut, PutUntouched, PutRight}
 use Rattle.plan.specs.Orders.{Apart, Rearranged, messageFor, returned, ends, LikeWrite}
 use Rattle.plan.proofs.ListLaws.{truth, contrary}
-use Rattle.plan.proofs.PlaceLaws.{full-is, none-filled, pairs-plan}
+use Rattle.plan.specs.Rule.{Waits}
+use Rattle.plan.proofs.PlaceLaws.{full-is, none-awaited, none-filled, pairs-plan}
 use Rattle.plan.proofs.TagLaws.{tagsPut, written-parts}
 use Rattle.plan.proofs.PlanLaws.{planned-done, labelsOf, messages-are, given-for, given-each, planned-card, planned-lent}
 use Rattle.plan.proofs.PutLaws.{Runs, runs-all}
+use Rattle.plan.proofs.WaitLaws.{awaited-waits}
 use Rattle.plan.proofs.RunLaws.{ran}
 use Rattle.plan.proofs.TurnLaws.{sound-length, Waiting, turns, turns-right-by, turns-untouched-by}
 
@@ -119,6 +121,13 @@ module _ (F : List ℕ → List ℕ) (F16 : (m : List ℕ) → length (F m) ≡ 
   pub filled-anchor : (xs : List PutStep) → full n (afterPuts (begun o) xs .plan) ≡ true
       → afterPuts (begun o) xs .anchor ≡ rooted a (t + n)
   filled-anchor xs e = anchor-after xs ∙ ap (λ (b : Bool). cond b (rooted a (t + n)) a) e
+
+  -- a plan that waits for no tag more is full
+  pub waits-none : (xs : List PutStep) → ((u : ℕ) → Waits n (afterPuts (begun o) xs .plan) u → ⊥) → full n (afterPuts (begun o) xs .plan) ≡ true
+  waits-none xs free =
+      let q = afterPuts (begun o) xs .plan in
+      let same = runs-all a i (t + n) xs (begun o) begun-runs .index-is in
+      none-awaited n q (subst (λ (j : ℕ). j < 2 ^ n) (sym same) (ok .inside)) (λ u k. free u (awaited-waits n q u k))
 
   -- right tags on untouched cards leave the card of the plain write, whatever refused puts stand among them
   pub filled-card : (xs : List PutStep) → full n (afterPuts (begun o) xs .plan) ≡ true → EachPut (PutRight F (o .messages)) (begun o) xs

@@ -81,6 +81,14 @@ module _ (n : ℕ) (p : Plan) where
   awaited-not-full u h =
       ⊎-elim (λ (e : full n p ≡ true). contrary (full-is e u (h .among)) (h .unfilled)) (λ (e : full n p ≡ false). e) (truth (full n p))
 
+  -- one that waits for nothing is full
+  pub none-awaited : p .index .0 < 2 ^ n → ((u : ℕ) → Awaited u → ⊥) → full n p ≡ true
+  none-awaited inside free =
+      is-full (λ u m.
+      ⊎-elim (λ (e : filledAt n p u ≡ true). e)
+      (λ (e : filledAt n p u ≡ false). absurd (free u (record { inside = inside; among = m; unfilled = e })))
+      (truth (filledAt n p u)))
+
 -- a new plan has nothing filled
 pub none-filled : (n : ℕ) (p : Plan) → p .filled ≡ 0 → (u : ℕ) → filledAt n p u ≡ false
 none-filled n p e u =

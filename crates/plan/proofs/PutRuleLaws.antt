@@ -1,6 +1,6 @@
 -- What document 02 says of a put.
 use mathlib.Core.Path.{_≡_, refl, sym, ap, subst, _∙_}
-use mathlib.Core.Bool.{Bool, true, false, cond}
+use mathlib.Core.Bool.{Bool, true, cond}
 use mathlib.Core.List.{List}
 use mathlib.Core.Logic.{⊎-elim}
 use Prim.Native.Nat.{ℕ, _+_, _*_, _%_, _^_, _<_}
@@ -12,14 +12,14 @@ use Rattle.tree.specs.declared.Answer.the-variants.{Whole}
 use Rattle.tree.specs.declared.BlockIndex.{BlockIndex}
 use Rattle.tree.proofs.LimitLaws.{first-passed}
 use Rattle.tree.proofs.CallLaws.{accepted}
-use Rattle.plan.specs.Places.{filledAt, fill, full}
+use Rattle.plan.specs.Places.{fill, full}
 use Rattle.plan.specs.Split.{Put, putDone, putSettled, putAnswer, put}
 use Rattle.plan.specs.Rule.{Waits, Taken, PutRule}
 use Rattle.plan.specs.declared.Plan.{Plan}
 use Rattle.plan.proofs.PlaceLaws.{Awaited, fill-same, fill-other}
-use Rattle.plan.proofs.ListLaws.{truth, contrary}
+use Rattle.plan.proofs.ListLaws.{contrary}
 use Rattle.plan.proofs.WaitLaws.{waits-place, awaited-waits, waits-awaited}
-use Rattle.plan.proofs.PlaceLaws.{is-full, awaited-not-full, waits-not}
+use Rattle.plan.proofs.PlaceLaws.{none-awaited, awaited-not-full, waits-not}
 use Rattle.plan.proofs.PutLaws.{put-in, put-accept, put-first, put-nine, put-answer, put-unchanged, put-tag, put-labels}
 use Rattle.plan.proofs.PutLaws.{put-others}
 
@@ -74,17 +74,8 @@ module _ (a : Anchor) (p : Plan) (card : List ℕ) (u : ℕ) (x : List ℕ) wher
     nothing-awaited : ((w : ℕ) → Waits (a .depth) (put a p card u x .plan) w → ⊥) → full (a .depth) (put a p card u x .plan) ≡ true
     nothing-awaited free =
         let q = put a p card u x .plan in
-        is-full (a .depth) q (λ w m.
-        ⊎-elim (λ (e : filledAt (a .depth) q w ≡ true). e)
-        (λ (e : filledAt (a .depth) q w ≡ false).
-        absurd
-        (free w
-        (awaited-waits (a .depth) q w (record {
-          inside = subst (λ (j : BlockIndex). j .0 < 2 ^ a .depth) (sym (kept-plan .0)) (waiting .inside);
-          among = m;
-          unfilled = e;
-        }))))
-        (truth (filledAt (a .depth) q w)))
+        none-awaited (a .depth) q (subst (λ (j : BlockIndex). j .0 < 2 ^ a .depth) (sym (kept-plan .0)) (waiting .inside))
+        (λ w k. free w (awaited-waits (a .depth) q w k))
 
     noted-at : (h : Waits (a .depth) p u) → put a p card u x .plan .filled ≡ p .filled + 2 ^ (2 * h .level + u % 2)
     unfolding fill

@@ -8,12 +8,13 @@ use lib.Seq.{sets}
 use Rattle.words.proofs.Cases.{equal-or-not}
 use Rattle.tree.specs.Layout.{size, offset}
 use Rattle.tree.specs.Labels.{Labels, message}
+use Rattle.tree.specs.Card.{putEach}
 use Rattle.tree.specs.declared.Anchor.{Anchor}
 use Rattle.plan.specs.Places.{planNodes, filledAt}
 use Rattle.plan.specs.Split.{Given, given}
 use Rattle.plan.specs.Puts.{PutStep, Going, afterPut, afterPuts, EachPut, PutUntouched, PutRight}
 use Rattle.plan.proofs.PlaceLaws.{fill-other}
-use Rattle.plan.proofs.TagLaws.{folded, tagsPut}
+use Rattle.plan.proofs.TagLaws.{tagsPut}
 use Rattle.plan.proofs.PutLaws.{Runs, Takes, step, runs-step}
 
 module _ (F : List ℕ → List ℕ) (a : Anchor) (i r : ℕ) (L : Labels) (ms : List Given)
@@ -56,7 +57,7 @@ module _ (F : List ℕ → List ℕ) (a : Anchor) (i r : ℕ) (L : Labels) (ms :
         (subst (λ (j : ℕ). List·Memᴰ w (planNodes n j)) (sym (k .index-is)) m) d
 
     ran-took : Ran (afterPut g x) xs → Ran g (x ∷ xs)
-    unfolding afterPuts folded
+    unfolding afterPuts putEach
     ran-took rest =
         record {
           nodes = x .node ∷ rest .nodes;
@@ -80,7 +81,7 @@ module _ (F : List ℕ → List ℕ) (a : Anchor) (i r : ℕ) (L : Labels) (ms :
         cover w m (inr d) (inr q) = inr (List·Memᴰ·tail q)
 
   pub ran : (xs : List PutStep) (g : Going) → Runs a i r g → Ran g xs
-  unfolding afterPuts folded
+  unfolding afterPuts putEach
   ran [] g k = record { nodes = []; among = λ u m. absurd (List·Memᴰ·not-nil m); covered = λ w m e. inl e; left-is = λ p q. refl }
   ran (x ∷ xs) g k =
       let rest = ran xs (afterPut g x) (runs-step a i r g k x) in

@@ -13,7 +13,7 @@ use Rattle.words.proofs.Cases.{equal-or-not}
 use Rattle.tree.specs.Layout.{IsNode, size, offset, cardLength, label}
 use Rattle.tree.specs.Nodes.{upTo, pathNode, sibling, path, pair, pairs}
 use Rattle.tree.specs.Labels.{Labels, message, labels, writtenLabels}
-use Rattle.tree.specs.Card.{laid, stamp, stamped, written}
+use Rattle.tree.specs.Card.{putEach, laid, stamp, stamped, written}
 use Rattle.tree.proofs.ByteLaws.{sets-there}
 use Rattle.tree.proofs.LayoutLaws.{AllNodes, entry-apart, entry-fits}
 use Rattle.tree.proofs.NodeLaws.{among, sibling-half, path-node, path-parent, Child, child-node, child-off, pair-node}
@@ -24,49 +24,45 @@ use Rattle.plan.proofs.PlaceLaws.{plan-node, plan-pairs, pairs-plan}
 use Rattle.plan.proofs.StoreLaws.{sets-swap, sets-again}
 use Rattle.plan.proofs.LaidLaws.{laid-label, laid-past}
 
--- Stores made for each node of a list. Where they can change places and one made again changes nothing, the list's order does not matter.
-
-unfoldable pub folded : (ℕ → List ℕ → List ℕ) → List ℕ → List ℕ → List ℕ
-folded f [] card = card
-folded f (u ∷ us) card = folded f us (f u card)
+-- Where the stores of two nodes can change places, and one made again changes nothing, the list's order does not matter.
 
 module _ (n : ℕ) (f : ℕ → List ℕ → List ℕ)
     (swap : (u w : ℕ) → IsNode n u → IsNode n w → (card : List ℕ) → f w (f u card) ≡ f u (f w card))
     (again : (u : ℕ) (card : List ℕ) → f u (f u card) ≡ f u card) where
-  front : (us : List ℕ) → AllNodes n us → (u : ℕ) → IsNode n u → (card : List ℕ) → folded f us (f u card) ≡ f u (folded f us card)
-  unfolding folded
+  front : (us : List ℕ) → AllNodes n us → (u : ℕ) → IsNode n u → (card : List ℕ) → putEach f us (f u card) ≡ f u (putEach f us card)
+  unfolding putEach
   front [] h u hu card = refl
   front (w ∷ us) h u hu card =
-      ap (folded f us) (swap u w hu (h w (List·Memᴰ·head refl)) card) ∙ front us (λ v m. h v (List·Memᴰ·tail m)) u hu (f w card)
+      ap (putEach f us) (swap u w hu (h w (List·Memᴰ·head refl)) card) ∙ front us (λ v m. h v (List·Memᴰ·tail m)) u hu (f w card)
 
   -- what is stored later need not be stored now
-  absorb : (us : List ℕ) → AllNodes n us → (u : ℕ) → List·Memᴰ u us → (card : List ℕ) → folded f us (f u card) ≡ folded f us card
-  unfolding folded
+  absorb : (us : List ℕ) → AllNodes n us → (u : ℕ) → List·Memᴰ u us → (card : List ℕ) → putEach f us (f u card) ≡ putEach f us card
+  unfolding putEach
   absorb [] h u m card = absurd (List·Memᴰ·not-nil m)
   absorb (w ∷ us) h u m card = go (absorb us (λ v k. h v (List·Memᴰ·tail k)) u) (List·Memᴰ·cases-cons m)
     where
-      go : (List·Memᴰ u us → (c : List ℕ) → folded f us (f u c) ≡ folded f us c) → (u ≡ w) ⊎ List·Memᴰ u us
-          → folded f us (f w (f u card)) ≡ folded f us (f w card)
-      go rest (inl e) = ap (λ (v : ℕ). folded f us (f w (f v card))) e ∙ ap (folded f us) (again w card)
-      go rest (inr k) = ap (folded f us) (swap u w (h u m) (h w (List·Memᴰ·head refl)) card) ∙ rest k (f w card)
+      go : (List·Memᴰ u us → (c : List ℕ) → putEach f us (f u c) ≡ putEach f us c) → (u ≡ w) ⊎ List·Memᴰ u us
+          → putEach f us (f w (f u card)) ≡ putEach f us (f w card)
+      go rest (inl e) = ap (λ (v : ℕ). putEach f us (f w (f v card))) e ∙ ap (putEach f us) (again w card)
+      go rest (inr k) = ap (putEach f us) (swap u w (h u m) (h w (List·Memᴰ·head refl)) card) ∙ rest k (f w card)
 
   commute : (us vs : List ℕ) → AllNodes n us → AllNodes n vs → (card : List ℕ)
-      → folded f vs (folded f us card) ≡ folded f us (folded f vs card)
-  unfolding folded
+      → putEach f vs (putEach f us card) ≡ putEach f us (putEach f vs card)
+  unfolding putEach
   commute [] vs hu hv card = refl
   commute (u ∷ us) vs hu hv card =
-      commute us vs (λ v m. hu v (List·Memᴰ·tail m)) hv (f u card) ∙ ap (folded f us) (front vs hv u (hu u (List·Memᴰ·head refl)) card)
+      commute us vs (λ v m. hu v (List·Memᴰ·tail m)) hv (f u card) ∙ ap (putEach f us) (front vs hv u (hu u (List·Memᴰ·head refl)) card)
 
   drown : (us vs : List ℕ) → AllNodes n vs → ((u : ℕ) → List·Memᴰ u us → List·Memᴰ u vs) → (card : List ℕ)
-      → folded f vs (folded f us card) ≡ folded f vs card
-  unfolding folded
+      → putEach f vs (putEach f us card) ≡ putEach f vs card
+  unfolding putEach
   drown [] vs hv g card = refl
   drown (u ∷ us) vs hv g card = drown us vs hv (λ v m. g v (List·Memᴰ·tail m)) (f u card) ∙ absorb vs hv u (g u (List·Memᴰ·head refl)) card
 
   -- lists with the same nodes leave the same card
-  pub folded-same : (us vs : List ℕ) → AllNodes n us → AllNodes n vs → ((u : ℕ) → List·Memᴰ u us → List·Memᴰ u vs)
-      → ((u : ℕ) → List·Memᴰ u vs → List·Memᴰ u us) → (card : List ℕ) → folded f us card ≡ folded f vs card
-  folded-same us vs hu hv g h card = sym (drown vs us hu h card) ∙ commute vs us hv hu card ∙ drown us vs hv g card
+  pub each-same : (us vs : List ℕ) → AllNodes n us → AllNodes n vs → ((u : ℕ) → List·Memᴰ u us → List·Memᴰ u vs)
+      → ((u : ℕ) → List·Memᴰ u vs → List·Memᴰ u us) → (card : List ℕ) → putEach f us card ≡ putEach f vs card
+  each-same us vs hu hv g h card = sym (drown vs us hu h card) ∙ commute vs us hv hu card ∙ drown us vs hv g card
 
 -- Tags
 
@@ -75,7 +71,7 @@ abbrev pub tagAt : ℕ → (ℕ → List ℕ) → ℕ → List ℕ → List ℕ
 tagAt n M u card = sets card (offset n u + size n u) (M u)
 
 abbrev pub tagsPut : ℕ → (ℕ → List ℕ) → List ℕ → List ℕ → List ℕ
-tagsPut n M us card = folded (tagAt n M) us card
+tagsPut n M us card = putEach (tagAt n M) us card
 
 module _ (n : ℕ) (M : ℕ → List ℕ) (M16 : (u : ℕ) → length (M u) ≡ 16) where
   tag-swap : (u w : ℕ) → IsNode n u → IsNode n w → (card : List ℕ) → tagAt n M w (tagAt n M u card) ≡ tagAt n M u (tagAt n M w card)
@@ -93,12 +89,12 @@ module _ (n : ℕ) (M : ℕ → List ℕ) (M16 : (u : ℕ) → length (M u) ≡ 
   -- in any order
   pub tags-same : (us vs : List ℕ) → AllNodes n us → AllNodes n vs → ((u : ℕ) → List·Memᴰ u us → List·Memᴰ u vs)
       → ((u : ℕ) → List·Memᴰ u vs → List·Memᴰ u us) → (card : List ℕ) → tagsPut n M us card ≡ tagsPut n M vs card
-  tags-same = folded-same n (tagAt n M) tag-swap (λ u card. sets-again (M u) card (offset n u + size n u))
+  tags-same = each-same n (tagAt n M) tag-swap (λ u card. sets-again (M u) card (offset n u + size n u))
 
 -- what is stamped is the labels, and then the tags
 stamped-parts : (F : List ℕ → List ℕ) → ((m : List ℕ) → length (F m) ≡ 16) → (n : ℕ) (L : Labels) → Sized n L → (us : List ℕ)
     → AllNodes n us → (card : List ℕ) → stamped F n L us card ≡ tagsPut n (λ u. F (message L u)) us (laid n L us card)
-unfolding stamped laid folded
+unfolding stamped laid putEach
 stamped-parts F F16 n L sized [] h card = refl
 stamped-parts F F16 n L sized (u ∷ us) h card =
     let hu = h u (List·Memᴰ·head refl) in
@@ -145,7 +141,7 @@ module _ (n t r i : ℕ) (card b : List ℕ) (full : length card ≡ cardLength 
 
   -- so the labels of the path are all that is new
   laid-levels : (k : ℕ) → k ≤ n → laid n L (upTo k (pair n i)) card ≡ laid n L (steps k) card
-  unfolding upTo laid label
+  unfolding upTo laid putEach label
   laid-levels zero h = refl
   laid-levels (suc k) h =
       let u = pathNode n i (suc k) in

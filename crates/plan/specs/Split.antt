@@ -1,5 +1,5 @@
 -- What a plan and a put do, on every input.
-use Prim.Native.Nat.{ℕ, _+_, _*_}
+use Prim.Native.Nat.{ℕ, _+_}
 use mathlib.Core.Path.{_≡_}
 use mathlib.Core.Bool.{not, cond}
 use mathlib.Core.List.{List, [], _∷_, _++_, map}
@@ -10,7 +10,7 @@ use Rattle.tree.specs.Layout.{size, offset}
 use Rattle.tree.specs.Nodes.{path}
 use Rattle.tree.specs.Labels.{Labels, message, writtenLabels}
 use Rattle.tree.specs.Card.{laid}
-use Rattle.tree.specs.Ranges.{rangesOf, encode}
+use Rattle.tree.specs.Ranges.{listed}
 use Rattle.tree.specs.Limits.{Limit, firstFailing}
 use Rattle.tree.specs.Calls.{write, firstLimits, verdict, Outcome, Reports, rooted, answerOf, checkedBy, settled}
 use Rattle.tree.specs.declared.Anchor.{Anchor}
@@ -53,7 +53,7 @@ module _ (F : List ℕ → List ℕ) where
           answer = Whole;
           anchor = a;
           card = laid n L (path n i) card;
-          lent = encode (rangesOf n i) ++ drop (16 * n) ranges;
+          lent = listed n i ranges;
           counted = checkedBy F a card (write i block ranges);
         };
         plan = record { index = record { 0 = i }; root = record { 0 = t + n }; filled = 0 };

@@ -17,9 +17,11 @@ use Rattle.tree.specs.declared.Answer.the-variants.{Whole}
 use Rattle.tree.proofs.CallLaws.{accepted}
 use Rattle.plan.specs.Places.{planNodes, full}
 use Rattle.plan.specs.Split.{Planned, planned}
+use Rattle.plan.specs.Puts.{PutStep, Going, begun, afterPut, afterPuts, EachPut, PutUntouched, PutRight}
 use Rattle.plan.specs.Orders.{Rearranged, returned, ends}
+use Rattle.plan.specs.Rule.{Waits}
 use Rattle.plan.proofs.PlanLaws.{plan-answer, planned-done}
-use Rattle.plan.proofs.OrderLaws.{turns-fill, turns-right}
+use Rattle.plan.proofs.OrderLaws.{turns-fill, turns-right, waits-none}
 use Rattle.plan.proofs.TurnLaws.{turns-untouched-by}
 use Rattle.replay.specs.Places.{Place}
 use Rattle.replay.specs.Run.{Step, call, split, cardOf, callOf, State, newTags, result, next, after}
@@ -197,6 +199,18 @@ module _ (F : List ℕ → List ℕ) (s : State) where
   abbrev pub Done : List Step → Step → Type 0
   Done before x = Complete F (after F s before .store) x
 
+-- what holds at each place of puts holds of each put
+at-each : (P : Going → PutStep → Type 0) (xs : List PutStep) (g : Going)
+    → ((p : Place xs) → P (afterPuts g (p .before)) (p .item)) → EachPut P g xs
+unfolding afterPuts
+at-each P [] g h = tt
+at-each P (x ∷ xs) g h = (h (first x xs), at-each P xs (afterPut g x) (λ p. h (later x p)))
+
+-- an accepted plan hands back the depth of its anchor
+planned-depth : (F : List ℕ → List ℕ) (a : Anchor) (card : List ℕ) (i : ℕ) (block ranges : List ℕ)
+    → answerOf F a card (write i block ranges) ≡ Whole → planned F a card i block ranges .call .anchor .depth ≡ a .depth
+planned-depth F a card i block ranges e = ap (λ (q : Planned). q .call .anchor .depth) (planned-done F a card i block ranges e)
+
 module _ (F : List ℕ → List ℕ) (F16 : (m : List ℕ) → length (F m) ≡ 16) where
   -- a plan with the tags of its messages put in any order
   in-turn : (s : State) (i : ℕ) (block ranges us : List ℕ) →
@@ -209,14 +223,33 @@ module _ (F : List ℕ → List ℕ) (F16 : (m : List ℕ) → length (F m) ≡ 
       let left = s .store .left in (
         λ w.
             let e = sym (plan-answer F a left i block ranges) ∙ w in
-            let d : planned F a left i block ranges .call .anchor .depth ≡ a .depth = ap (λ (q : Planned). q .call .anchor .depth)
-            (planned-done F a left i block ranges e) in
             record {
               rights = turns-right F F16 a left i block ranges e us order;
-              fills = ap (λ (n : ℕ). full n (ends F a left i block ranges us .plan)) d ∙ turns-fill F F16 a left i block ranges e us order;
+              fills =
+                  ap (λ (n : ℕ). full n (ends F a left i block ranges us .plan)) (planned-depth F a left i block ranges e)
+                  ∙ turns-fill F F16 a left i block ranges e us order;
             },
         (refl, turns-untouched-by _ us _),
       )
+
+  -- a split write of which this holds by place
+  completed : (s : State) (card : List ℕ) (i : ℕ) (block ranges : List ℕ) (puts : List PutStep) →
+      let a = s .store .anchor in
+      let o = planned F a card i block ranges in
+      (o .call .answer ≡ Whole
+      → ((p : Place puts) → PutRight F (o .messages) (afterPuts (begun o) (p .before)) (p .item))
+      × ((u : ℕ) → Waits (a .depth) (afterPuts (begun o) puts .plan) u → ⊥))
+      → Complete F (s .store) (split card i block ranges puts)
+  completed s card i block ranges puts h w =
+      let a = s .store .anchor in
+      let o = planned F a card i block ranges in
+      let e = sym (plan-answer F a card i block ranges) ∙ w in
+      record {
+        rights = at-each (PutRight F (o .messages)) puts (begun o) (h w .0);
+        fills =
+            ap (λ (n : ℕ). full n (afterPuts (begun o) puts .plan)) (planned-depth F a card i block ranges e)
+            ∙ waits-none F F16 a card i block ranges e puts (h w .1);
+      }
 
   pub goes-on : (s : State) → GoesOn F s
   goes-on s =
@@ -232,7 +265,7 @@ module _ (F : List ℕ → List ℕ) (F16 : (m : List ℕ) → length (F m) ≡ 
         complete-none = λ p. absurd (no-place p);
         complete-more = λ xs x f h. at-more (Done F s) xs x f h;
         complete-call = λ xs card c. tt;
-        complete-split = λ xs card i block ranges puts rights fills accepted. record { rights = rights; fills = fills };
-        untouched-split = λ xs i block ranges puts untouched. (refl, untouched);
+        complete-split = λ xs card i block ranges puts h. completed (after F s xs) card i block ranges puts h;
+        untouched-split = λ xs i block ranges puts untouched. (refl, at-each PutUntouched puts _ untouched);
         in-turn = λ xs i block ranges us order. in-turn (after F s xs) i block ranges us order;
       }

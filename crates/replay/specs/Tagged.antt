@@ -13,10 +13,11 @@ use Rattle.tree.specs.declared.Anchor.{Anchor}
 use Rattle.tree.specs.declared.Answer.the-variants.{Whole}
 use Rattle.replay.specs.Places.{Place}
 use Rattle.replay.specs.Array.{zeroed}
-use Rattle.plan.specs.Places.{planNodes, full}
+use Rattle.plan.specs.Places.{planNodes}
 use Rattle.plan.specs.Split.{Given, planned, put}
-use Rattle.plan.specs.Puts.{PutStep, begun, afterPuts, EachPut}
+use Rattle.plan.specs.Puts.{PutStep, Going, begun, afterPuts}
 use Rattle.plan.specs.Orders.{Rearranged, returned}
+use Rattle.plan.specs.Rule.{Waits}
 use Rattle.replay.specs.Run.{Step, call, split, cardOf, callOf, State, newTags, result, next, after}
 use Rattle.replay.specs.Claim.{GivenLeft, ChecksTagged, Complete, Untouched, Accepted, AgreesHere, known, Everywhere, AllComplete}
 use Rattle.replay.specs.Claim.{Agreement, Forgery, Faithful, Demand3}
@@ -82,11 +83,15 @@ pub record Afresh (F : List ℕ → List ℕ) (s₀ : State) (n : ℕ) {xs : Lis
   pub emptied : next F (known F s₀ p) (p .item) .store .array ≡ zeroed (2 ^ n)
   pub demand : Demand3 F (next F (known F s₀ p) (p .item)) (p .behind)
 
+-- the put x, given the anchor and the plan as last returned, is accepted
+abbrev pub Accepts : Going → PutStep → Type 0
+Accepts g x = put (g .anchor) (g .plan) (x .card) (x .node) (x .tag) .answer ≡ Whole
+
 -- Such lists are as many as the paper allows: one may go on with any call on the card as last left, with any refused call on any card, and
 -- with a wipe of any card; and where a wipe is accepted, it frees the calls before it. Every call is complete. So is a split write, on any
--- cards and with any refused puts, whose accepted puts had their messages' tags and filled the plan; it is untouched where the plan and
--- every accepted put had the card as the step before left it. A plan with puts of its messages' tags in any order, each on the card as
--- the step before left it, is both.
+-- cards and with any refused puts, whose accepted puts had their messages' tags and left the plan waiting for none, and any whose plan is
+-- refused; it is untouched where the plan and every accepted put had the card as the step before left it. A plan with puts of its
+-- messages' tags in any order, each on the card as the step before left it, is both.
 pub record GoesOn (F : List ℕ → List ℕ) (s₀ : State) : Type 0 where
   pub honest-none : Honest F s₀ []
   pub honest-more : (xs : List Step) (x : Step) → Honest F s₀ xs
@@ -106,14 +111,17 @@ pub record GoesOn (F : List ℕ → List ℕ) (s₀ : State) : Type 0 where
   pub complete-split : (xs : List Step) (card : List ℕ) (i : ℕ) (block ranges : List ℕ) (puts : List PutStep) →
       let s = after F s₀ xs .store in
       let o = planned F (s .anchor) card i block ranges in
-      EachPut (λ g x. put (g .anchor) (g .plan) (x .card) (x .node) (x .tag) .answer ≡ Whole
-      → (m : Given) → List·Memᴰ m (o .messages) → m .node ≡ x .node → x .tag ≡ F (m .message)) (begun o) puts
-      → full (o .call .anchor .depth) (afterPuts (begun o) puts .plan) ≡ true
+      (o .call .answer ≡ Whole
+      → ((p : Place puts) → Accepts (afterPuts (begun o) (p .before)) (p .item)
+      → (m : Given) → List·Memᴰ m (o .messages) → m .node ≡ p .item .node → p .item .tag ≡ F (m .message))
+      × ((u : ℕ) → Waits (s .anchor .depth) (afterPuts (begun o) puts .plan) u → ⊥))
       → Complete F s (split card i block ranges puts)
   pub untouched-split : (xs : List Step) (i : ℕ) (block ranges : List ℕ) (puts : List PutStep) →
       let s = after F s₀ xs .store in
-      EachPut (λ g x. put (g .anchor) (g .plan) (x .card) (x .node) (x .tag) .answer ≡ Whole → x .card ≡ g .left)
-      (begun (planned F (s .anchor) (s .left) i block ranges)) puts
+      let o = planned F (s .anchor) (s .left) i block ranges in
+      ((p : Place puts) →
+      let g = afterPuts (begun o) (p .before) in
+      Accepts g (p .item) → p .item .card ≡ g .left)
       → Untouched F s (split (s .left) i block ranges puts)
   pub in-turn : (xs : List Step) (i : ℕ) (block ranges us : List ℕ) →
       let s = after F s₀ xs .store in

@@ -14,7 +14,7 @@ use Rattle.tree.specs.Layout.{IsCard, size, offset}
 use Rattle.tree.specs.Nodes.{path}
 use Rattle.tree.specs.Labels.{Labels, labels, writtenLabels}
 use Rattle.tree.specs.Card.{laid, firstWrong}
-use Rattle.tree.specs.Ranges.{rangesOf, encode}
+use Rattle.tree.specs.Ranges.{listed}
 use Rattle.tree.specs.Limits.{firstFailing}
 use Rattle.tree.specs.Calls.{Call, write, firstLimits, limits, checks, verdict, total, rooted, answerOf, checkedBy}
 use Rattle.tree.specs.declared.Anchor.{Anchor}
@@ -106,7 +106,7 @@ module _ (a : Anchor) (card : List ℕ) (i : ℕ) (block ranges buffer : List �
       → k ≡ once + total each (checkedBy F a card c)
       → p ≡ record { index = record { 0 = i }; root = record { 0 = t + n }; filled = 0 }
       → card' ≡ laid n L (path n i) card
-      → lent ≡ encode (rangesOf n i) ++ drop (16 * n) ranges
+      → lent ≡ listed n i ranges
       → messages ≡ joined (map (given L) (planNodes n i)) ++ drop (length (joined (map (given L) (planNodes n i)))) buffer
       → Told Whole k p card' lent messages
   plan-whole k p card' lent messages e v q z f g m =

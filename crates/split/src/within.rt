@@ -19,7 +19,7 @@ ghost use Rattle.tree.specs.Layout.{IsCard};
 ghost use Rattle.tree.specs.Nodes.{path};
 ghost use Rattle.tree.specs.Labels.{writtenLabels};
 ghost use Rattle.tree.specs.Card.{laid};
-ghost use Rattle.tree.specs.Ranges.{rangesOf, encode};
+ghost use Rattle.tree.specs.Ranges.{listed};
 ghost use Rattle.tree.specs.Limits.{firstFailing};
 ghost use Rattle.tree.specs.Calls.{write, limits, rooted};
 ghost use Rattle.plan.specs.Places.{planNodes, full};
@@ -105,8 +105,7 @@ fn lay(
     ensures { λ _. ⌜ now (card .exit) ≡ laid (anchor .depth)
         (writtenLabels (anchor .depth) (anchor .root .0) (anchor .root .0) (now (card .entry)) (index .0) (now (block .entry)))
         (path (anchor .depth) (index .0)) (now (card .entry)) ⌝ }
-    ensures { λ _. ⌜ now (ranges .exit)
-        ≡ encode (rangesOf (anchor .depth) (index .0)) ++ drop (16 * anchor .depth) (now (ranges .entry)) ⌝ }
+    ensures { λ _. ⌜ now (ranges .exit) ≡ listed (anchor .depth) (index .0) (now (ranges .entry)) ⌝ }
     ensures { λ _. ⌜ now (messages .exit)
         ≡ joined (map (given (writtenLabels (anchor .depth) (anchor .root .0) (anchor .root .0)
         (now (card .entry)) (index .0) (now (block .entry)))) (planNodes (anchor .depth) (index .0)))

@@ -19,7 +19,7 @@ use Rattle.tree.specs.Numbers.{be8}
 use Rattle.tree.specs.Layout.{IsNode, IsCard, size, offset, label}
 use Rattle.tree.specs.Nodes.{upTo, pathNode, sibling, pair, pairs}
 use Rattle.tree.specs.Labels.{Labels, form, message, labels, nonceOrBlock, blankLabels, newLabels}
-use Rattle.tree.specs.Card.{stamp, stamped}
+use Rattle.tree.specs.Card.{putEach, stamp, stamped}
 use Rattle.tree.proofs.ByteLaws.{length-be, part-sets-second, sets-there}
 use Rattle.tree.proofs.LayoutLaws.{AllNodes, inner, leaf, size-low, length-label, entry-on}
 use Rattle.tree.proofs.NodeLaws.{Off, among, is-among, sibling-half, path-leaf, path-parent, path-level}
@@ -119,7 +119,7 @@ pub blank-more : (F : List ℕ → List ℕ) (n t y : ℕ) (card c p : List ℕ)
     → let u = y + 1 + 1 in
     let x = nonceOrBlock n t (replicate 64 0) u in
     sets c (offset n u) (x ++ F (form x p (u % 2))) ≡ stamped F n (blankLabels n t) (upTo (y + 1) (λ z. (z + 1) ∷ [])) card
-unfolding stamped blankLabels
+unfolding stamped putEach blankLabels
 blank-more F n t y card c p h e q =
     let u = y + 1 + 1 in
     let x = nonceOrBlock n t (replicate 64 0) u in
@@ -226,7 +226,7 @@ module _ (n i : ℕ) (inside : i < 2 ^ n) (y u v : ℕ) (h : y < n) (on : u ≡ 
     pub write-more : (p c c1 : List ℕ) → p ≡ be8 (new - y) → c ≡ stamped F n L (upTo y (pair n i)) card
         → let x = nonceOrBlock n (new - (y + 1)) b u in
         c1 ≡ sets c (offset n u) (x ++ F (form x p (u % 2))) → Pair p c1
-    unfolding stamped
+    unfolding stamped putEach
     write-more p c c1 q e e1 =
         let c0 = stamped F n L (upTo y (pair n i)) card in
         let x = nonceOrBlock n (new - (y + 1)) b u in

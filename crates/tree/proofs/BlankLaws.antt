@@ -13,7 +13,7 @@ use Rattle.words.proofs.Cases.{below-or-not}
 use Rattle.tree.specs.Layout.{IsNode, size, offset, cardLength}
 use Rattle.tree.specs.Nodes.{upTo, allNodes}
 use Rattle.tree.specs.Labels.{Labels, message, blankLabels}
-use Rattle.tree.specs.Card.{stamped, blanked, firstWrong, checked}
+use Rattle.tree.specs.Card.{putEach, stamped, blanked, firstWrong, checked}
 use Rattle.tree.specs.Limits.{depthLimit, cardLimit, firstFailing}
 use Rattle.tree.specs.Calls.{wipe, firstLimits, ownLimits, limits, checks, tagged, verdict, rooted, answerOf, outcome}
 use Rattle.tree.specs.Calls.{formatAnswer, formatCard, format}
@@ -58,7 +58,7 @@ module _ (F : List ℕ → List ℕ) (F16 : (m : List ℕ) → length (F m) ≡ 
     put-more : (card : List ℕ) → length card ≡ cardLength n → (k : ℕ) → k < 2 * 2 ^ n - 2
         → take (offset n (k + 1 + 1 + 1)) (put (k + 1) card)
         ≡ take (offset n (k + 1 + 1)) (put k card) ++ (L (k + 1 + 1) ++ F (message L (k + 1 + 1)))
-    unfolding stamped
+    unfolding stamped putEach
     put-more card full k h =
         let u = k + 1 + 1 in
         let x = L u ++ F (message L u) in

@@ -6,13 +6,13 @@ use Prim.Native.Nat.{ℕ, suc, _+_, _<_, _≤_}
 use native.Mathlib.Numerals.{add-one}
 use native.Mathlib.Omega.{arith}
 use lib.ListN.{length, length-append}
-use lib.Seq.{sets, length-sets}
+use lib.Seq.{length-sets}
 use Rattle.words.specs.Bytes.{at, part}
 use Rattle.words.proofs.Cases.{equal-or-not}
 use Rattle.tree.specs.Layout.{IsNode, size, offset, cardLength, label, tag}
 use Rattle.tree.specs.Nodes.{upTo}
 use Rattle.tree.specs.Labels.{Labels, message}
-use Rattle.tree.specs.Card.{laid, stamp, stamped}
+use Rattle.tree.specs.Card.{putEach, laid, stamp, stamped}
 use Rattle.tree.proofs.ByteLaws.{at-sets-apart, at-sets-first, part-sets-apart, part-sets-first, part-sets-second}
 use Rattle.tree.proofs.LayoutLaws.{AllNodes, entry-fits, entry-apart}
 use Rattle.tree.proofs.LabelLaws.{Sized}
@@ -37,46 +37,57 @@ Leaves n L u j x = ((j < offset n u) ⊎ (offset n u + (size n u + 16) ≤ j)) �
 
 -- Nodes after nodes
 
+module _ (put : ℕ → List ℕ → List ℕ) where
+  pub length-each : ((u : ℕ) (card : List ℕ) → length (put u card) ≡ length card) → (us card : List ℕ)
+      → length (putEach put us card) ≡ length card
+  unfolding putEach
+  length-each same [] card = refl
+  length-each same (u ∷ us) card = length-each same us (put u card) ∙ same u card
+
+  pub each-append : (us vs card : List ℕ) → putEach put (us ++ vs) card ≡ putEach put vs (putEach put us card)
+  unfolding putEach
+  each-append [] vs card = refl
+  each-append (u ∷ us) vs card = each-append us vs (put u card)
+
+  -- one level more
+  pub each-more : (k : ℕ) (f : ℕ → List ℕ) (card : List ℕ)
+      → putEach put (upTo (k + 1) f) card ≡ putEach put (f (k + 1)) (putEach put (upTo k f) card)
+  unfolding upTo
+  each-more k f card =
+      ap (λ (j : ℕ). putEach put (upTo j f) card) (add-one k) ∙ each-append (upTo k f) (f (suc k)) card
+      ∙ ap (λ (j : ℕ). putEach put (f j) (putEach put (upTo k f) card)) (sym (add-one k))
+
 module _ (F : List ℕ → List ℕ) (n : ℕ) (L : Labels) where
   length-stamp : (card : List ℕ) (u : ℕ) → length (stamp F n L card u) ≡ length card
-  length-stamp card u = simp length-sets
+  length-stamp card u = length-sets card (offset n u) (L u ++ F (message L u))
 
   pub length-stamped : (us card : List ℕ) → length (stamped F n L us card) ≡ length card
   unfolding stamped
-  length-stamped [] card = refl
-  length-stamped (u ∷ us) card = length-stamped us (stamp F n L card u) ∙ length-stamp card u
+  length-stamped us card = length-each _ (λ u c. length-stamp c u) us card
 
   pub stamped-append : (us vs card : List ℕ) → stamped F n L (us ++ vs) card ≡ stamped F n L vs (stamped F n L us card)
   unfolding stamped
-  stamped-append [] vs card = refl
-  stamped-append (u ∷ us) vs card = stamped-append us vs (stamp F n L card u)
+  stamped-append us vs card = each-append _ us vs card
 
-  -- one level more
   pub stamped-more : (k : ℕ) (f : ℕ → List ℕ) (card : List ℕ)
       → stamped F n L (upTo (k + 1) f) card ≡ stamped F n L (f (k + 1)) (stamped F n L (upTo k f) card)
-  unfolding upTo
-  stamped-more k f card =
-      ap (λ (j : ℕ). stamped F n L (upTo j f) card) (add-one k) ∙ stamped-append (upTo k f) (f (suc k)) card
-      ∙ ap (λ (j : ℕ). stamped F n L (f j) (stamped F n L (upTo k f) card)) (sym (add-one k))
+  unfolding stamped
+  stamped-more k f card = each-more _ k f card
 
 -- labels alone
 module _ (n : ℕ) (L : Labels) where
   pub length-laid : (us card : List ℕ) → length (laid n L us card) ≡ length card
   unfolding laid
-  length-laid [] card = refl
-  length-laid (u ∷ us) card = length-laid us (sets card (offset n u) (L u)) ∙ length-sets card (offset n u) (L u)
+  length-laid us card = length-each _ (λ u c. length-sets c (offset n u) (L u)) us card
 
   pub laid-append : (us vs card : List ℕ) → laid n L (us ++ vs) card ≡ laid n L vs (laid n L us card)
   unfolding laid
-  laid-append [] vs card = refl
-  laid-append (u ∷ us) vs card = laid-append us vs (sets card (offset n u) (L u))
+  laid-append us vs card = each-append _ us vs card
 
   pub laid-more : (k : ℕ) (f : ℕ → List ℕ) (card : List ℕ)
       → laid n L (upTo (k + 1) f) card ≡ laid n L (f (k + 1)) (laid n L (upTo k f) card)
-  unfolding upTo
-  laid-more k f card =
-      ap (λ (j : ℕ). laid n L (upTo j f) card) (add-one k) ∙ laid-append (upTo k f) (f (suc k)) card
-      ∙ ap (λ (j : ℕ). laid n L (f j) (laid n L (upTo k f) card)) (sym (add-one k))
+  unfolding laid
+  laid-more k f card = each-more _ k f card
 
 -- What they show
 
@@ -134,7 +145,7 @@ module _ (F : List ℕ → List ℕ) (F16 : (m : List ℕ) → length (F m) ≡ 
   -- a stamped node is shown as stamped
   pub stamped-shows : (us : List ℕ) → AllNodes n us → (card : List ℕ) → length card ≡ cardLength n
       → (u : ℕ) → IsNode n u → Shows card u ⊎ List·Memᴰ u us → Shows (stamped F n L us card) u
-  unfolding stamped
+  unfolding stamped putEach
   stamped-shows [] nodes card full u h (inl s) = s
   stamped-shows [] nodes card full u h (inr m) = absurd (List·Memᴰ·not-nil m)
   stamped-shows (w ∷ us) nodes card full u h o =
@@ -154,7 +165,7 @@ module _ (F : List ℕ → List ℕ) (F16 : (m : List ℕ) → length (F m) ≡ 
   -- a byte that every stamp leaves, or puts again
   pub stamped-byte : (us : List ℕ) → AllNodes n us → (card : List ℕ) → length card ≡ cardLength n
       → (j x : ℕ) → ((w : ℕ) → List·Memᴰ w us → Leaves n L w j x) → at card j ≡ x → at (stamped F n L us card) j ≡ x
-  unfolding stamped
+  unfolding stamped putEach
   stamped-byte [] nodes card full j x f e = e
   stamped-byte (w ∷ us) nodes card full j x f e =
       stamped-byte us (λ v m. nodes v (List·Memᴰ·tail m)) (stamp F n L card w)
@@ -164,7 +175,7 @@ module _ (F : List ℕ → List ℕ) (F16 : (m : List ℕ) → length (F m) ≡ 
   -- any other is shown as before
   pub stamped-keeps : (us : List ℕ) → AllNodes n us → (card : List ℕ) → length card ≡ cardLength n
       → (u : ℕ) → IsNode n u → (List·Memᴰ u us → ⊥) → Alike n (stamped F n L us card) card u
-  unfolding stamped
+  unfolding stamped putEach
   stamped-keeps [] nodes card full u h o = record { label-same = refl; tag-same = refl }
   stamped-keeps (w ∷ us) nodes card full u h o =
       alike-trans

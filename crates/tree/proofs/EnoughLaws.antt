@@ -3,15 +3,14 @@ use mathlib.Core.Path.{_≡_, refl, sym, ap, ap₂, subst, _∙_}
 use mathlib.Core.Bool.{Bool, true, false, cond}
 use mathlib.Core.List.{List, [], _∷_, _++_, List·Memᴰ, List·Memᴰ·head, List·Memᴰ·tail, Memᴰ·append-left, Memᴰ·append-right, Memᴰ·map}
 use mathlib.Core.Option.{Option, none, some}
-use Prim.Native.Nat.{ℕ, _+_, _*_, _^_}
-use lib.ListN.{drop}
+use Prim.Native.Nat.{ℕ, _+_, _^_}
 use lib.Seq.{sets}
 use Rattle.words.specs.Bytes.{same}
 use Rattle.tree.specs.Layout.{offset, label, tag}
 use Rattle.tree.specs.Nodes.{pairs, allNodes}
 use Rattle.tree.specs.Labels.{Labels, message, labels, blankLabels, newLabels}
-use Rattle.tree.specs.Card.{right, firstWrong, checked, stamp, stamped, blanked, written}
-use Rattle.tree.specs.Ranges.{rangesOf, encode}
+use Rattle.tree.specs.Card.{putEach, right, firstWrong, checked, stamp, stamped, blanked, written}
+use Rattle.tree.specs.Ranges.{listed}
 use Rattle.tree.specs.Limits.{firstFailing}
 use Rattle.tree.specs.Calls.{Call, read, write, check, wipe, lentTo, limits, checks, tagged, verdict, rooted, answerOf, checkedBy}
 use Rattle.tree.specs.Calls.{madeBy, done, settled, outcome}
@@ -56,7 +55,7 @@ module _ (F G : List ℕ → List ℕ) where
   -- and put the same
   stamped-same : (n : ℕ) (L : Labels) (us card : List ℕ) → ((u : ℕ) → List·Memᴰ u us → F (message L u) ≡ G (message L u))
       → stamped F n L us card ≡ stamped G n L us card
-  unfolding stamped
+  unfolding stamped putEach
   stamped-same n L [] card h = refl
   stamped-same n L (u ∷ us) card h =
       stamped-same n L us (stamp F n L card u) (λ v i. h v (List·Memᴰ·tail i))
@@ -83,7 +82,7 @@ module _ (F G : List ℕ → List ℕ) where
           answer = Whole;
           anchor = rooted a (t + n);
           card = d;
-          lent = encode (rangesOf n i) ++ drop (16 * n) ranges;
+          lent = listed n i ranges;
           counted = l ++ tagged a card c;
         })
         (stamped-same n (newLabels n t i block (labels n t card)) (pairs n i) card

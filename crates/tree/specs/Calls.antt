@@ -1,16 +1,16 @@
 -- What the calls do, on every input: the answer, the anchor, the card and the lent buffer as they leave it, and how often they call the
 -- cipher.
-use Prim.Native.Nat.{ℕ, _+_, _*_, _^_}
+use Prim.Native.Nat.{ℕ, _+_, _^_}
 use mathlib.Core.Path.{_≡_}
 use mathlib.Core.Bool.{Bool, true, false}
 use mathlib.Core.List.{List, [], _∷_, _++_, map}
 use mathlib.Core.Option.{Option, none, some}
-use lib.ListN.{length, drop}
+use lib.ListN.{length}
 use Rattle.tree.specs.Layout.{label}
 use Rattle.tree.specs.Nodes.{path, pairs, pairsButLeaf, allNodes}
 use Rattle.tree.specs.Labels.{message, blankLabels, writtenLabels}
 use Rattle.tree.specs.Card.{blanked, written, firstWrong, checked}
-use Rattle.tree.specs.Ranges.{rangesOf, encode}
+use Rattle.tree.specs.Ranges.{listed}
 use Rattle.tree.specs.Limits.{Limit, depthLimit, nonceLimit, cardLimit, blockLimit, lengthLimit, rangeLimit, spentLimit, firstFailing}
 use Rattle.tree.specs.declared.Anchor.{Anchor}
 use Rattle.tree.specs.declared.Refusal.{Refusal}
@@ -167,7 +167,7 @@ module _ (F : List ℕ → List ℕ) where
         answer = Whole;
         anchor = rooted a (a .root .0 + a .depth);
         card = written F (a .depth) (a .root .0) (a .root .0) card i block;
-        lent = encode (rangesOf (a .depth) i) ++ drop (16 * a .depth) ranges;
+        lent = listed (a .depth) i ranges;
         counted = madeBy a card (write i block ranges);
       }
   done a card check = record { answer = Whole; anchor = a; card = card; lent = []; counted = madeBy a card check }

@@ -10,10 +10,14 @@ use Rattle.tree.specs.Layout.{offset, tag}
 use Rattle.tree.specs.Nodes.{pairs, allNodes}
 use Rattle.tree.specs.Labels.{Labels, message, labels, blankLabels, writtenLabels}
 
+-- what is put on a card for a node, put for each node of a list, one after the other
+unfoldable pub putEach : (ℕ → List ℕ → List ℕ) → List ℕ → List ℕ → List ℕ
+putEach put [] card = card
+putEach put (u ∷ us) card = putEach put us (put u card)
+
 -- the labels of nodes put in their places, and every tag left as it is
 unfoldable pub laid : ℕ → Labels → List ℕ → List ℕ → List ℕ
-laid n L [] card = card
-laid n L (u ∷ us) card = laid n L us (sets card (offset n u) (L u))
+laid n L us card = putEach (λ u c. sets c (offset n u) (L u)) us card
 
 module _ (F : List ℕ → List ℕ) where
   -- the card with node u's label and tag put in its place
@@ -22,8 +26,7 @@ module _ (F : List ℕ → List ℕ) where
 
   -- the same for each node of a list
   unfoldable pub stamped : ℕ → Labels → List ℕ → List ℕ → List ℕ
-  stamped n L [] card = card
-  stamped n L (u ∷ us) card = stamped n L us (stamp n L card u)
+  stamped n L us card = putEach (λ u c. stamp n L c u) us card
 
   -- all nonces t, all blocks zero, all tags right
   unfoldable pub blanked : ℕ → ℕ → List ℕ → List ℕ

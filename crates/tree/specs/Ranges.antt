@@ -3,6 +3,7 @@ use Prim.Native.Nat.{ℕ, zero, suc, _+_, _*_, _/_}
 use mathlib.Core.Bool.{cond}
 use mathlib.Core.List.{List, [], _∷_, _++_}
 use lib.Dec.{eqb}
+use lib.ListN.{drop}
 use Rattle.tree.specs.Numbers.{be}
 use Rattle.tree.specs.Layout.{size, offset}
 use Rattle.tree.specs.Nodes.{pathNode}
@@ -35,3 +36,7 @@ rangesOf n i = rangesTo n i n
 unfoldable pub encode : List Range → List ℕ
 encode [] = []
 encode (r ∷ rs) = be 4 (r .start) ++ (be 4 (r .count) ++ encode rs)
+
+-- a range buffer after a write to block i: the ranges, and behind them the bytes that it had
+abbrev pub listed : ℕ → ℕ → List ℕ → List ℕ
+listed n i buffer = encode (rangesOf n i) ++ drop (16 * n) buffer

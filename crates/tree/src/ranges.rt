@@ -7,11 +7,11 @@ use crate::path;
 ghost use mathlib.Core.Path.{_≡_};
 ghost use mathlib.Core.List.{[], _∷_, _++_};
 ghost use Prim.Native.Nat.{_+_, _*_, _^_, _≤_, _<_};
-ghost use lib.ListN.{length, drop};
+ghost use lib.ListN.{length};
 ghost use lib.Seq.{sets};
 ghost use Rattle.tree.specs.Numbers.{be};
 ghost use Rattle.tree.specs.Layout.{IsNode};
-ghost use Rattle.tree.specs.Ranges.{rangeOf, rangesOf, encode};
+ghost use Rattle.tree.specs.Ranges.{rangeOf, encode, listed};
 
 // Puts one range at a place of the buffer.
 fn put_range(buffer: &mut [u8], place: usize, start: u32, count: u32)
@@ -43,7 +43,7 @@ pub fn fill(depth: u64, index: BlockIndex, buffer: &mut [u8])
     requires { ⌜ (1 ≤ depth) × (depth ≤ 16) ⌝ }
     requires { ⌜ index .0 < 2 ^ depth ⌝ }
     requires { ⌜ 16 * depth ≤ length (now buffer) ⌝ }
-    ensures { λ _. ⌜ now (buffer .exit) ≡ encode (rangesOf depth (index .0)) ++ drop (16 * depth) (now (buffer .entry)) ⌝ }
+    ensures { λ _. ⌜ now (buffer .exit) ≡ listed depth (index .0) (now (buffer .entry)) ⌝ }
 {
     let mut level: u64 = 0;
     while level < depth {

@@ -2,12 +2,11 @@
 use mathlib.Core.Path.{_≡_, refl, sym, ap, ap₂, _∙_}
 use mathlib.Core.List.{List, [], _∷_, _++_, map}
 use mathlib.Core.Option.{Option, none, some}
-use Prim.Native.Nat.{ℕ, _+_, _*_, _^_, _≤_}
+use Prim.Native.Nat.{ℕ, _+_, _^_, _≤_}
 use native.Mathlib.Nat.{add-zero, add-assoc}
 use native.Mathlib.Omega.{arith}
 use types.Run.{OneOf, miss}
 use denote.Enum.Declared.{tagOf}
-use lib.ListN.{drop}
 use Rattle.cmac.specs.Cmac.{cmacOf}
 use Rattle.cmac.specs.Context.{ContextOf, tagUnder}
 use Rattle.cmac.specs.Traced.{subkeysCount, cmacCount, countUnder}
@@ -18,7 +17,7 @@ use Rattle.tree.specs.Layout.{label}
 use Rattle.tree.specs.Nodes.{allNodes}
 use Rattle.tree.specs.Labels.{message, blankLabels}
 use Rattle.tree.specs.Card.{blanked, written, firstWrong, checked}
-use Rattle.tree.specs.Ranges.{rangesOf, encode}
+use Rattle.tree.specs.Ranges.{listed}
 use Rattle.tree.specs.Limits.{firstFailing}
 use Rattle.tree.specs.Calls.{Call, read, write, check, wipe, lentTo, limits, checks, tagged, verdict, total, Reports, rooted, answerOf}
 use Rattle.tree.specs.Calls.{checkedBy, settled, outcome}
@@ -139,7 +138,7 @@ module _ (a : Anchor) (card : List ℕ) where
       → k ≡ once + total each (checkedBy F a card c) + total each (tagged a card c)
       → b ≡ rooted a (a .root .0 + a .depth)
       → card' ≡ written F (a .depth) (a .root .0) (a .root .0) card i block
-      → lent ≡ encode (rangesOf (a .depth) i) ++ drop (16 * a .depth) ranges
+      → lent ≡ listed (a .depth) i ranges
       → Told c Whole k b card' lent
   reports-write i block ranges k b card' lent e v q h f g =
       let c = write i block ranges in

@@ -10,7 +10,7 @@ use Rattle.cmac.specs.Context.{tagUnder}
 use Rattle.cmac.specs.Traced.{countUnder}
 use Rattle.tree.specs.Nodes.{upTo, allNodes}
 use Rattle.tree.specs.Labels.{message, blankLabels}
-use Rattle.tree.specs.Card.{stamped, blanked}
+use Rattle.tree.specs.Card.{putEach, stamped, blanked}
 use Rattle.tree.specs.Calls.{total}
 use Rattle.tree.proofs.LayoutLaws.{few-leaves}
 use Rattle.tree.proofs.CardLaws.{length-stamped}
@@ -37,7 +37,7 @@ kept c =
     ∙ length-stamped (tagUnder (now (a .schedule)) (now (a .subkeys))) (a .depth) (blankLabels (a .depth) (a .nonce .0)) _ (now (a .card))
 
 loop-holds : tie.Need-loop-holds Inv-loop μ-loop
-unfolding stamped upTo total
+unfolding stamped putEach upTo total
 loop-holds c = (search needs, refl, refl, search needs)
 
 put-entry-requires : tie.Need-put-entry-requires Inv-loop μ-loop

@@ -13,7 +13,7 @@ use Rattle.cmac.proofs.Laws.{length-tag-under}
 use Rattle.tree.specs.Layout.{IsNode}
 use Rattle.tree.specs.Nodes.{upTo, sibling, pair, pairs}
 use Rattle.tree.specs.Labels.{message, labels, newLabels}
-use Rattle.tree.specs.Card.{stamped, written}
+use Rattle.tree.specs.Card.{putEach, stamped, written}
 use Rattle.tree.specs.Calls.{total}
 use Rattle.tree.proofs.LayoutLaws.{few-leaves}
 use Rattle.tree.proofs.CardLaws.{length-stamped}
@@ -49,7 +49,7 @@ on-path c =
     u-node (s .args .depth) (s .args .index .0) (s .pre .1 .1 .0) (l .loop .level) u (sibling u) (omega arith) (c .node .ensures) refl
 
 loop-holds : tie.Need-loop-holds Inv-loop μ-loop
-unfolding stamped upTo total
+unfolding stamped putEach upTo total
 loop-holds c = (search needs, λ r. (refl, refl), search needs)
 
 put-entry-requires : tie.Need-put-entry-requires Inv-loop μ-loop

@@ -9,7 +9,7 @@ use lib.Seq.{sets}
 use Rattle.tree.specs.Layout.{IsNode, offset}
 use Rattle.tree.specs.Nodes.{upTo, pathNode, sibling, path}
 use Rattle.tree.specs.Labels.{labels, newLabels}
-use Rattle.tree.specs.Card.{laid}
+use Rattle.tree.specs.Card.{putEach, laid}
 use Rattle.tree.proofs.CardLaws.{length-laid, laid-more}
 use Rattle.stamp.proofs.StampLaws.{same-card, u-node, u-label}
 use borrow.Author.Needs.{needs}
@@ -41,7 +41,7 @@ on-path c =
     u-node (s .args .depth) (s .args .index .0) (s .pre .1 .0) (l .loop .y) u (sibling u) (omega arith) (c .node .ensures) refl
 
 loop-holds : tie.Need-loop-holds Inv-loop μ-loop
-unfolding laid upTo
+unfolding laid putEach upTo
 loop-holds c = (search needs, λ r. refl)
 
 put-label-requires : tie.Need-put-label-requires Inv-loop μ-loop
@@ -51,7 +51,7 @@ put-label-requires c κs =
     (same-card _ (kept l) (s .pre .0), (on-path (c .before), s .pre .1 .1 .0))
 
 loop-again : tie.Need-loop-again Inv-loop μ-loop
-unfolding laid
+unfolding laid putEach
 loop-again c =
     let p = c .before .before in
     let node = c .before .before .before .before in
