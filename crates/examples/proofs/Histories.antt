@@ -166,23 +166,37 @@ twice (x ∷ xs) =
 abbrev together : State
 together = next checksum (formatted 2) (split (formatted 2 .store .left) 2 newBlock (replicate 32 0) (twice tagsBack))
 
--- the anchor's root nonce after each of some puts
-abbrev roots : Going → List PutStep → List ℕ
-roots g [] = []
-roots g (x ∷ xs) = afterPut g x .anchor .root .0 ∷ roots (afterPut g x) xs
+-- what each of some puts answers, and the anchor's root nonce and the filled places after it
+pub record Seen : Type 0 where
+  pub answer : Answer
+  pub root : ℕ
+  pub filled : ℕ
 
--- It leaves what the plain write does, the second put of node 6 is refused with 9, and the last put alone brings the new anchor.
+abbrev seen : Going → List PutStep → List Seen
+seen g [] = []
+seen g (x ∷ xs) =
+    let h = afterPut g x in
+    record {
+      answer = put (g .anchor) (g .plan) (x .card) (x .node) (x .tag) .answer;
+      root = h .anchor .root .0;
+      filled = h .plan .filled;
+    } ∷ seen h xs
+
+-- It leaves what the plain write does, the second put of node 6 is refused with 9, and the last put alone brings the new anchor. Nodes 2, 3,
+-- 6 and 7 have the bits 1, 2, 4 and 8.
 pub split-computed : let s = formatted 2 .store in
     let o = planned checksum (s .anchor) (s .left) 2 newBlock (replicate 32 0) in
     let g = begun o in
     (together .store ≡ next checksum (formatted 2) (call (s .left) (writing 2 2)) .store)
     × (o .call .answer ≡ Whole)
-    × (roots g (twice tagsBack) ≡ 0 ∷ 0 ∷ 0 ∷ 0 ∷ 2 ∷ [])
-    × (put (s .anchor) (fill 2 (o .plan) 6) (s .left) 6 (replicate 16 0) .answer ≡ Refused NotAwaited)
+    × (seen g (twice tagsBack)
+    ≡ record { answer = Whole; root = 0; filled = 4 } ∷ record { answer = Refused NotAwaited; root = 0; filled = 4 }
+    ∷ record { answer = Whole; root = 0; filled = 6 } ∷ record { answer = Whole; root = 0; filled = 7 }
+    ∷ record { answer = Whole; root = 2; filled = 15 } ∷ [])
 unfolding start next moved format formatAnswer zeroed limits firstFailing checks outcome answerOf firstWrong blanked written stamped putEach
     labels blankLabels newLabels raised allNodes upTo pathNode sibling path pairs pairsButLeaf be size offset label tag form same rangesTo
     encode planned put putAnswer planNodes member every placeIn awaits fill full laid afterPut afterPuts messageFor inTurn
-split-computed = (refl, refl, refl, refl)
+split-computed = (refl, refl, refl)
 
 -- The same where somebody altered block 1 between the first put and the second: every put is accepted, and the array has moved once, but a
 -- check of the card after the last put names node 5.

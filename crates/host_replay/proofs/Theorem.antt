@@ -154,18 +154,6 @@ module _ (key : List ℕ) where
         (completes rs (next F s (stepOf r)) (backOf r .anchor) (knows-next r s h k (ran .0) (ran .1) here)
         (next-key F (length-cmac key) s (stepOf r) here .1 ∙ d) (ran .2) (λ p. f (later r p)))
 
--- where no write is split nothing is asked
-abbrev pub Plainly : Called → Type 0
-Plainly (call given card c back) = Unit {0}
-Plainly (split given p qs) = ⊥
-
-pub calls-filled : (anchor : List ℕ) (rs : List Called) → Each rs (λ before r. Plainly r) → AllFilled anchor rs
-calls-filled anchor rs f p = go (p .item) (f p)
-  where
-    go : (r : Called) → Plainly r → FilledIn (anchorOf anchor .key) (anchorOf anchor .depth) r
-    go (call given card c back) h = tt
-    go (split given p qs) h = absurd h
-
 module _ (anchor card made left : List ℕ) (formatted : Formatted anchor card 0 made left) (rs : List Called)
     (ran : History (bytes made) rs) where
   abbrev k : List ℕ
@@ -197,10 +185,6 @@ module _ (anchor card made left : List ℕ) (formatted : Formatted anchor card 0
   -- filled split writes are complete
   pub filled-complete : AllFilled anchor rs → AllComplete (cmacOf (anchorOf anchor .key)) (begin anchor card) (steps rs)
   filled-complete f = completes k n rs (begin anchor card) (bytes made) (keyed, begun .long, begun .is) depth-is ran f
-
-  -- and so are calls alone
-  pub calls-complete : Each rs (λ before r. Plainly r) → AllComplete (cmacOf (anchorOf anchor .key)) (begin anchor card) (steps rs)
-  calls-complete f = filled-complete (calls-filled anchor rs f)
 
   pub followed : AllComplete (cmacOf (anchorOf anchor .key)) (begin anchor card) (steps rs) → (p : Place rs)
       → Follows (anchorOf anchor .key)

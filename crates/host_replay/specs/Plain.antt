@@ -17,9 +17,8 @@ use Rattle.replay.specs.Places.{Place, Behind}
 use Rattle.replay.specs.Run.{cardOf, callOf, told}
 use Rattle.replay.specs.Claim.{Forgery}
 use Rattle.host_bytes.specs.Host.{anchorBytes, anchorOf, hostCall, Hosts}
-use Rattle.host_replay.specs.Called.{anchorIn, PlanCalled, PutCalled, Called, call, split, lastAnchor, lastCard, backOf, stepOf}
-use Rattle.host_replay.specs.Called.{steps, PutsMeet}
-use Rattle.host_replay.specs.Called.{Meets, begin}
+use Rattle.host_replay.specs.Called.{Held, anchorIn, Back, PlanCalled, PutCalled, Called, call, split, lastAnchor, lastCard, backOf}
+use Rattle.host_replay.specs.Called.{stepOf, steps, PutsMeet, Meets, begin}
 
 -- the call, or the plan of a split write, answered 0
 abbrev pub whole : Called → Bool
@@ -176,6 +175,18 @@ pub record PlainGoesOn (left : List ℕ) : Type 0 where
   pub writes-more : (rs : List Called) (r : Called) → WritesUntouched left rs
       → (backOf r .code ≡ 0 → isWrite (called r) ≡ true → Untouched (leftBy left rs) r) → WritesUntouched left (rs ++ (r ∷ []))
   pub writes-wiped : (rs : List Called) (r : Called) → backOf r .code ≡ 0 → called r ≡ Calls.wipe → WritesUntouched left (rs ++ (r ∷ []))
+  -- a call is untouched by its card alone; a split write by the plan's and by that of every put that answered 0
+  pub untouched-call : (s : Held) (c : Call) (back : Back) → Untouched left (call s left c back)
+  pub untouched-split : (s : List ℕ) (p : PlanCalled) (qs : List PutCalled) → p .card ≡ left
+      → ((k : Place qs) → k .item .code ≡ 0 → k .item .step .card ≡ lastCard (p .left) (k .before)) → Untouched left (split s p qs)
+  -- nothing is asked of calls and of refused plans; of others that each put which answered 0 had its message's tag, and each node has one
+  pub filled-call : (key : List ℕ) (n : ℕ) (s : Held) (card : List ℕ) (c : Call) (back : Back) → FilledIn key n (call s card c back)
+  pub filled-split : (key : List ℕ) (n : ℕ) (s : List ℕ) (p : PlanCalled) (qs : List PutCalled)
+      → (p .code ≡ 0 → ((q : PutCalled) → List·Memᴰ q qs → q .code ≡ 0
+      → q .step .tag ≡ cmacOf key (messageFor n (planNodes n (p .index)) (q .step .node) (p .messages)))
+      × ((u : ℕ) → List·Memᴰ u (planNodes n (p .index)) → PutAt u qs))
+      → FilledIn key n (split s p qs)
+  pub put-at : (q : PutCalled) (qs : List PutCalled) → List·Memᴰ q qs → q .code ≡ 0 → PutAt (q .step .node) qs
   pub filled-none : (anchor : List ℕ) → AllFilled anchor []
   pub filled-more : (anchor : List ℕ) (rs : List Called) (r : Called) → AllFilled anchor rs
       → FilledIn (anchorOf anchor .key) (anchorOf anchor .depth) r → AllFilled anchor (rs ++ (r ∷ []))

@@ -8,7 +8,7 @@ use Prim.Native.Nat.{ℕ, _+_, _≤_}
 use native.Mathlib.Omega.{arith}
 use borrow.Author.Tests.{not-false}
 use lib.ListN.{length}
-use lib.Seq.{sets, length-sets}
+use lib.Seq.{sets}
 use Rattle.words.specs.Bytes.{part}
 use Rattle.tree.specs.Layout.{IsNode, size, offset, label, tag}
 use Rattle.tree.specs.Limits.{firstFailing}
@@ -28,7 +28,6 @@ use Rattle.plan.specs.Places.{awaits, fill, full}
 use Rattle.plan.specs.Split.{Given, noPlan, placeLimit, putAnswer, Put, putDone, putSettled, put}
 use Rattle.plan.specs.Puts.{PutStep, Going, afterPut, afterPuts, Placed, EachPut, PutUntouched, PutRight}
 use Rattle.plan.specs.declared.Plan.{Plan}
-use Rattle.plan.proofs.ListLaws.{contrary}
 use Rattle.plan.proofs.PlaceLaws.{Awaited, awaited, is-awaited, awaited-not-full, plan-node}
 use Rattle.plan.proofs.StoreLaws.{part-sets}
 use Rattle.plan.proofs.LaidLaws.{label-off-tag}
@@ -61,8 +60,6 @@ module _ (a : Anchor) (p : Plan) (card : List ℕ) (u : ℕ) where
       ∙ pass (placeLimit (a .depth) p u) [] (ap not (is-awaited (a .depth) p u h)) no-limits)
 
   -- a full plan takes no tag
-  pub full-takes : full (a .depth) p ≡ true → putAnswer a p card u ≡ Whole → ⊥
-  full-takes f e = contrary f (awaited-not-full (a .depth) p u (put-in e .1))
 
   -- 1, 2 and 3 come first, and behind them is 9
   pub put-first : (r : Refusal) → firstFailing (firstLimits a (length card)) ≡ some r → putAnswer a p card u ≡ Refused r
@@ -106,9 +103,6 @@ module _ (a : Anchor) (p : Plan) (card : List ℕ) (u : ℕ) where
 
     node : IsNode n u
     node = let w = put-in whole .1 in plan-node n (p .index .0) (w .inside) u (w .among)
-
-    pub put-length : length (put a p card u x .card) ≡ length card
-    put-length = ap length left-is ∙ length-sets card (offset n u + size n u) x
 
     pub put-tag : tag n (put a p card u x .card) u ≡ x
     unfolding tag

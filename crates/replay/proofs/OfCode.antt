@@ -5,7 +5,7 @@ use mathlib.Core.List.{List, [], _∷_, _++_, map}
 use Prim.Native.Nat.{ℕ}
 use native.Mathlib.Omega.{arith}
 use denote.Ref.{now}
-use lib.ListN.{length, drop}
+use lib.ListN.{length, drop, replicate}
 use Rattle.cmac.specs.Cmac.{cmacOf}
 use Rattle.cmac.specs.Traced.{subkeysCount, cmacCount}
 use Rattle.tree.specs.Layout.{IsCard}
@@ -16,7 +16,7 @@ use Rattle.tree.specs.declared.Answer.{Answer}
 use Rattle.tree.specs.declared.Answer.the-variants.{Whole}
 use Rattle.tree.proofs.CallLaws.{format-in}
 use Rattle.cmac.proofs.Laws.{length-cmac}
-use Rattle.plan.specs.Split.{Planned, planned, noPlan, joined, putAnswer, put}
+use Rattle.plan.specs.Split.{Planned, planned, noPlan, joined, messageRoom, putAnswer, put}
 use Rattle.plan.specs.Puts.{PutStep, Going, begun, afterPut, afterPuts}
 use Rattle.plan.specs.declared.Plan.{Plan}
 use Rattle.plan.proofs.PlanLaws.{plan-answer, planned-refused}
@@ -90,18 +90,18 @@ put-ran κs x r e learnt = (learnt, tt)
 
 -- Every list of cards, calls and split writes runs from every anchor.
 
--- puts from any anchor, plan and card
-record PutsRun (a : Anchor) (p : Plan) (card : List ℕ) (xs : List PutStep) : Type 0 where
+-- puts from any anchor and plan
+record PutsRun (a : Anchor) (p : Plan) (xs : List PutStep) : Type 0 where
   puts : List PutRan
   ran : PutsMeet a p puts
   are : map (λ (q : PutRan). q .step) puts ≡ xs
 
-puts-run : (xs : List PutStep) (a : Anchor) (p : Plan) (card : List ℕ) → PutsRun a p card xs
-puts-run [] a p card = record { puts = []; ran = tt; are = refl }
-puts-run (x ∷ xs) a p card =
+puts-run : (xs : List PutStep) (a : Anchor) (p : Plan) → PutsRun a p xs
+puts-run [] a p = record { puts = []; ran = tt; are = refl }
+puts-run (x ∷ xs) a p =
     let o = put a p (x .card) (x .node) (x .tag) in
     let q : PutRan = record { step = x; answer = o .answer; anchor = o .anchor; plan = o .plan; card = o .card } in
-    let rest = puts-run xs (o .anchor) (o .plan) (o .card) in
+    let rest = puts-run xs (o .anchor) (o .plan) in
     record {
       puts = q ∷ rest .puts;
       ran = (record { answered = refl; anchored = refl; planned = refl; left = refl }, rest .ran);
@@ -126,17 +126,18 @@ step-runs a (Run.split card i block ranges xs) =
     let o = planned (cmacOf (a .key)) a card i block ranges in
     let k = countOf (subkeysCount (a .key)) (cmacCount (a .key)) (o .call) in
     let ms = joined (o .messages) in
+    let buffer : List ℕ = replicate messageRoom 0 in
     let p : PlanRan = record {
       card = card;
       index = i;
       block = block;
       ranges = ranges;
-      buffer = [];
+      buffer = buffer;
       back = record { answer = o .call .answer; count = k; anchor = o .call .anchor; card = o .call .card; lent = o .call .lent };
       plan = o .plan;
-      messages = ms ++ drop (length ms) [];
+      messages = ms ++ drop (length ms) buffer;
     } in
-    let rest = puts-run xs (o .call .anchor) (o .plan) (o .call .card) in
+    let rest = puts-run xs (o .call .anchor) (o .plan) in
     record {
       one = split p (rest .puts);
       met = (

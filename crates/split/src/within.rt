@@ -25,7 +25,7 @@ ghost use Rattle.tree.specs.Calls.{write, limits, rooted};
 ghost use Rattle.plan.specs.Places.{planNodes, full};
 ghost use Rattle.plan.specs.Split.{given, planned, noPlan, joined, messageRoom, Plans};
 
-// Plan.
+// Plans the write once its limits are passed: its checks, and then what it lays on the card.
 pub(crate) fn plan(
     anchor: Anchor,
     card: &mut [u8],
