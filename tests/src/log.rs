@@ -1,15 +1,16 @@
 //! The log that the program `histories` prints, made by the reference alone.
 //!
-//! For each depth from 1 to 6: a line with the depth, then a line for the format (step 0, kind 17) and for each of 500 steps:
+//! For each depth from 1 to 6: a line with the depth, then a line for the format (step 0, kind 19) and for each of 700 steps:
 //! step, kind, answer number, node, count of AES calls (0 for the format), root nonce, and the Adler-32 of card, read buffer and
-//! range buffer.
+//! range buffer. Of a split write number, node and count are the plan's, and the read buffer has what each of its puts answered.
 
-use reference::tree::{self, layout, Anchor, Answer, Counted, Node};
+use reference::cmac::Cmac;
+use reference::tree::{self, layout, paths, Anchor, Answer, BlockIndex, Counted, Node, Plan};
 use std::fmt::Write;
 
 const DEPTHS: std::ops::RangeInclusive<u64> = 1..=6;
-const STEPS: u64 = 500;
-const KINDS: u64 = 17;
+const STEPS: u64 = 700;
+const KINDS: u64 = 19;
 const FORMAT: u64 = KINDS;
 const FRESH_CARD: u8 = 0xa5;
 const FRESH_BUFFER: [u8; 64] = [0x5a; 64];
@@ -41,6 +42,15 @@ fn adler(bytes: &[u8]) -> u32 {
         high = (high + low) % 65_521;
     }
     high << 16 | low
+}
+
+/// A plan for a block that a card of that depth has not: it waits for no tag, as after a refusal.
+fn nothing(depth: u64) -> Plan {
+    Plan {
+        index: layout::blocks(depth),
+        root: 0,
+        filled: 0,
+    }
 }
 
 /// One depth: its card and anchor, an earlier card, and what the last step left in the buffers.
@@ -93,7 +103,9 @@ impl Run {
                 self.old.clone_from(&self.card);
                 self.check()
             }
-            _ => self.wiped(),
+            16 => self.wiped(),
+            17 => self.split(index, self.card.len(), self.ranges.len(), false),
+            _ => self.hostile_split(index),
         };
         (kind, counted)
     }
@@ -208,6 +220,63 @@ impl Run {
         };
         let anchor = Anchor { key, depth, root };
         tree::wipe(&anchor, &mut self.card[..bytes])
+    }
+
+    /// Plans a block that is drawn, with so many bytes of card and range buffer lent, and puts its tags, if so with a bit flipped
+    /// before them: as many puts as there are places, of places that are drawn, and then one of each place in rising order. The
+    /// place behind the last is the root.
+    fn split(&mut self, index: u64, card: usize, ranges: usize, flipped: bool) -> Counted {
+        let block: [u8; 64] = self.draws.bytes();
+        let (lent, ranges) = (&mut self.card[..card], &mut self.ranges[..ranges]);
+        let (counted, planned) = tree::plan(&self.anchor, lent, index, &block, ranges);
+        if flipped {
+            self.flip();
+        }
+        let depth = self.anchor.depth;
+        let (mut plan, messages) = match planned {
+            Some(planned) => (planned.plan, planned.messages),
+            None => (nothing(depth), Vec::new()),
+        };
+        let cmac = Cmac::new(&self.anchor.key);
+        let tag = |(node, message): (Node, Vec<u8>)| (node, cmac.tag(&message));
+        let mut tags: Vec<_> = messages.into_iter().map(tag).collect();
+        if tags.is_empty() {
+            let nodes = paths::tagged(depth, BlockIndex(index)).into_iter();
+            tags = nodes.map(|node| (node, [0; 16])).collect();
+        }
+        tags.push((Node::ROOT, [0; 16]));
+        let places = tags.len() - 1;
+        for attempt in 0..2 * places {
+            let place = match attempt < places {
+                true => (self.draws.draw() % tags.len() as u64) as usize,
+                false => attempt - places,
+            };
+            let (node, tag) = tags[place];
+            let answer = tree::put_tag(
+                &self.anchor,
+                &mut plan,
+                &mut self.card[..card],
+                node.0,
+                &tag,
+            );
+            self.buffer[attempt] = answer.number() as u8;
+            if let Answer::Accepted(anchor) = answer {
+                self.anchor = anchor;
+            }
+        }
+        let full = plan.filled == (1 << places) - 1;
+        assert_eq!(full, counted.answer.number() == 0, "every tag is put");
+        counted
+    }
+
+    /// A split write whose range buffer or card is too short, or with a bit of the card flipped between plan and puts.
+    fn hostile_split(&mut self, index: u64) -> Counted {
+        let (card, ranges) = (self.card.len(), self.ranges.len());
+        match self.draws.draw() % 3 {
+            0 => self.split(index, card, 16 * self.anchor.depth as usize - 1, false),
+            1 => self.split(index, card - 1, ranges, false),
+            _ => self.split(index, card, ranges, true),
+        }
     }
 
     /// The line of a step.

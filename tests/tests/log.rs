@@ -5,12 +5,14 @@ use std::path::Path;
 const STORED: &str = "../crates/histories/stdout";
 
 /// Kinds of steps: a check, a read of the old card, two of its nodes among new ones, a check after which the card is the old
-/// one, and a wipe.
+/// one, a wipe, a split write, and one that is refused or has a bit flipped before its puts.
 const CHECK: u64 = 9;
 const OLD: u64 = 12;
 const MIXED: u64 = 13;
 const KEPT: u64 = 15;
 const WIPE: u64 = 16;
+const SPLIT: u64 = 17;
+const HOSTILE_SPLIT: u64 = 18;
 
 /// How often a thing comes up at the least, over all depths.
 const LEAST: u64 = 12;
@@ -74,7 +76,7 @@ fn answers() {
     for step in histories().iter().flatten() {
         counts[step.number as usize] += 1;
     }
-    assert_eq!(counts.iter().sum::<u64>(), 6 * 501);
+    assert_eq!(counts.iter().sum::<u64>(), 6 * 701);
     all_of(&[0, 1, 2, 3, 4, 5, 6, 7, 8], counts, "steps");
 }
 
@@ -100,6 +102,39 @@ fn wipes() {
     all_of(&[0, 1, 2, 3, 7], counts, "wipes");
 }
 
+/// Split writes are accepted at every depth, and refused for a wrong tag and by the limits that they are made to pass. An accepted
+/// one moves the root nonce by the depth, and a refused one changes nothing.
+#[test]
+fn splits() {
+    let (mut plain, mut hostile) = ([0; 9], [0; 9]);
+    for (depth, steps) in (1..).zip(histories()) {
+        let (mut accepted, mut spoiled) = (0, 0);
+        for pair in steps.windows(2) {
+            let (before, split) = (&pair[0], &pair[1]);
+            let counts = match split.kind {
+                SPLIT => &mut plain,
+                HOSTILE_SPLIT => &mut hostile,
+                _ => continue,
+            };
+            counts[split.number as usize] += 1;
+            if split.number == 0 {
+                assert_eq!(split.root, before.root + depth);
+                accepted += u64::from(split.kind == SPLIT);
+                spoiled += u64::from(split.kind == HOSTILE_SPLIT);
+            } else {
+                assert_eq!(split.root, before.root);
+                let flipped = split.kind == HOSTILE_SPLIT && split.number == 8;
+                assert!(split.card == before.card || flipped);
+            }
+        }
+        println!("depth {depth}: {accepted} accepted, {spoiled} spoiled");
+        assert!(accepted >= LEAST && spoiled >= 2, "depth {depth}");
+    }
+    all_of(&[0, 8], plain, "split writes");
+    hostile[8] = 0; // on a card that is damaged already, which is rare
+    all_of(&[0, 3, 6], hostile, "hostile split writes");
+}
+
 /// The card of before a wipe is refused at every read after it; two of its nodes among new ones are too, where they are looked
 /// at.
 #[test]
@@ -121,8 +156,8 @@ fn cards_of_before_a_wipe() {
     all_of(&[0, 8], mixed, "old nodes");
 }
 
-/// A write may leave an old node on the card, which a check finds. A wipe mends that: until the next such write every check is
-/// accepted.
+/// A write may leave an old node on the card, and a bit may be flipped before the puts of a plan; a check finds it. A wipe mends
+/// that: until the next such step every check is accepted.
 #[test]
 fn mended() {
     let (mut wrong, mut mended) = (0, 0);
@@ -134,7 +169,7 @@ fn mended() {
                     mended += u64::from(found);
                     (found, fresh) = (false, true);
                 }
-                (MIXED, 0) => fresh = false,
+                (MIXED, 0) | (HOSTILE_SPLIT, 0 | 8) => fresh = false,
                 (CHECK | KEPT, number) => {
                     assert!(number == 0 || !fresh, "a check of a wiped card: {number}");
                     found = number != 0;

@@ -14,10 +14,10 @@ ghost use Rattle.steps.specs.Card.{IsDepth, IsCard};
 const SEED: u64 = 0x9e37_79b9_7f4a_7c15;
 
 // How many steps follow the format.
-const STEPS: u64 = 500;
+const STEPS: u64 = 700;
 
 // How many kinds of steps there are, from 0. The format has the number after them.
-const KINDS: u64 = 17;
+const KINDS: u64 = 19;
 
 // Runs and prints the history of a depth.
 pub fn run(depth: u64)

@@ -9,7 +9,7 @@ use steps::turn::Turn;
 ghost use Prim.Native.Nat.{_^_, _<_};
 ghost use Rattle.steps.specs.Card.{IsCard};
 
-// Five kinds of seventeen write and four read; the others are hostile, check the card, or wipe it.
+// Five kinds of nineteen write, two in a plan and its puts, and four read; the others are hostile, check the card, or wipe it.
 pub fn step(kind: u64, turn: Turn, depth: u64, card: &mut [u8], old: &mut [u8]) -> Left
     requires { ⌜ turn .block .0 < 2 ^ depth ⌝ }
     requires { ⌜ IsCard depth (now card) ⌝ }
@@ -43,5 +43,11 @@ pub fn step(kind: u64, turn: Turn, depth: u64, card: &mut [u8], old: &mut [u8]) 
         words::put(old, 0, card);
         return call::check(turn, card);
     }
-    wipe::step(turn, depth, card, old)
+    if kind == 16 {
+        return wipe::step(turn, depth, card, old);
+    }
+    if kind == 17 {
+        return split_steps::step(turn, depth, card);
+    }
+    split_steps::hostile(turn, depth, card)
 }

@@ -6,10 +6,10 @@ use Rattle.histories.proofs.history.steps.Tie as tie
 
 abbrev Inv-loop : tie.InvT-loop
 Inv-loop depth drawn card₀ old₀ anchor₀ last₀ number₀ card old anchor last number =
-    (number ≤ 500) × IsCard depth card × IsCard depth old
+    (number ≤ 700) × IsCard depth card × IsCard depth old
 
 abbrev μ-loop : tie.MeasureT-loop
-μ-loop depth drawn card₀ old₀ anchor₀ last₀ number₀ card old anchor last number = 500 - number
+μ-loop depth drawn card₀ old₀ anchor₀ last₀ number₀ card old anchor last number = 700 - number
 
 pub steps-spec : {M : Type 1} → statement M
 steps-spec =
