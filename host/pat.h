@@ -111,10 +111,11 @@ extern "C" {
 // for each tag of a block. That is 2 * depth + 4 for a read, 8 * depth + 8 for a write, in place
 // too, 7 * 2^depth - 3 for a check and for a wipe, and 4 * depth + 2 for a plan. The plan's tags
 // are made by the engines, which need 4 * depth + 6 calls for all of them, the subkeys being
-// counted with the plan: plan and engines together make the write's 8 * depth + 8. A put makes
-// none. A refusal with 8 makes those up to and with the wrong tag, and so never more than these;
-// every other refusal makes none. 0 for a depth that is not 1 to 16. Constant expressions where the
-// depth is one; the depth is evaluated more than once.
+// counted with the plan: plan and engines together make the write's 8 * depth + 8. An engine makes
+// the subkeys once for its key, which is one call more. A put makes none. A refusal with 8 makes
+// those up to and with the wrong tag, and so never more than these; every other refusal makes none.
+// 0 for a depth that is not 1 to 16. Constant expressions where the depth is one; the depth is
+// evaluated more than once.
 #define PAT_AES_READ(depth)                                                                        \
     ((depth) >= 1 && (depth) <= PAT_MAX_DEPTH ? (size_t)2 * (size_t)(depth) + 4 : (size_t)0)
 #define PAT_AES_WRITE(depth)                                                                       \
@@ -330,7 +331,8 @@ uint64_t pat_wipe(uint8_t *anchor, size_t anchor_len, uint8_t *card, size_t card
 // 1. It gives each message to an engine. The messages are no longer needed by any call, and may be
 //    read while tags are put.
 // 2. It puts each tag as it comes, by a call of pat_put_tag. Each call gets anchor, plan and card
-//    as the step before left them, and no other call stands between the plan and its last put.
+//    as the step before left them, and no other call on this anchor and card stands between the
+//    plan and its last put, which is the PAT_MESSAGES(depth)-th that is accepted.
 // 3. After the last put it stores the new anchor, and only then copies the ranges out, as for
 //    pat_write.
 //
@@ -340,14 +342,17 @@ uint64_t pat_wipe(uint8_t *anchor, size_t anchor_len, uint8_t *card, size_t card
 // Until the last put the card is no card of its anchor: that still has the old T, and tags of
 // whatever is new along the path are wrong under it. So nothing of anchor, plan or card is stored
 // before. Where the last put never comes, the plan is given up: it is thrown away with its tags,
-// those too that are still to come, since a put under it after a later write could set T back. The
-// host goes on with the anchor and with the card's bytes of before, which it has kept or loads
-// anew. The next plan, write or wipe takes the same nonces, so no tag of the plan that was given up
-// may be seen outside the box: with such tags that plan's card could pass under the next anchor,
-// after a wipe too. Where one was seen, format another card with a new key.
+// those too that are still to come. Put under it after a later write, they could set T back; put
+// under the next plan, which may await the same nodes, they take the place of its own. So the host
+// must know of each tag which plan it was made for. It goes on with the anchor and with the card's
+// bytes of before, which it has kept or loads anew. The next plan, write or wipe takes the same
+// nonces, so no tag of the plan that was given up may be seen outside the box: with such tags that
+// plan's card could pass under the next anchor, after a wipe too. Where one was seen, format
+// another card with a new key.
 //
-// A refused call leaves plan and messages as they were. Put no tag after it: whatever bytes the
+// A refused pat_plan leaves plan and messages as they were. Put no tag after it: whatever bytes the
 // plan has, those of an earlier one or zeros, they stand for some plan, which may await that tag.
+// After a refused pat_put_tag the write goes on.
 //
 // Refused 5: the anchor has not 32 bytes, the plan not 24 or the messages not 656. 1: depth. 2: T.
 // 3: card length. 4: block number. 5: the block has not 64 bytes. 6: range buffer. 7: T is spent.
@@ -363,8 +368,12 @@ uint64_t pat_plan(const uint8_t *anchor, size_t anchor_len, uint8_t *card, size_
 //
 // The tag is not verified. A wrong one is found, and refused with 8, by the next read of a block
 // under its node, by a write or plan that checks that node, and by a check. It stays: a second tag
-// for its node is refused with 9. A host that doubts its engines makes a check after the last put,
-// before it stores anything, and gives the plan up, with the new anchor, if that is refused.
+// for its node is refused with 9. A host that doubts its engines keeps the anchor and the card of
+// before. After the last put, and before it stores anything, it makes a pat_read of the block and,
+// on a copy of the card, a pat_plan of the same block, which it throws away: together these check
+// every tag that was put, with 6 * depth + 6 AES calls. If one is refused with 8 it goes back to
+// what it kept, and gives the plan up. A pat_check costs more, and is refused for damage elsewhere
+// too, which neither write nor plan looks at.
 //
 // It has an answer for a plan of any bytes and looks at no byte of the card. T becomes whatever
 // such a plan says.

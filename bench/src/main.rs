@@ -23,7 +23,7 @@ const PLOT: &str = "--plot";
 /// Prints everything; the plot goes to the file, if one is named.
 fn run(plot: Option<&str>) -> Result<(), String> {
     std::env::remove_var(child::VARIABLE);
-    eprintln!("Measuring takes about two minutes.");
+    eprintln!("Measuring takes about three minutes.");
     let (mut rows, mut results) = (chains::measure()?, calls::measure()?);
     let splits = calls::split::measure()?;
     let pairs = calls::before::measure()?;

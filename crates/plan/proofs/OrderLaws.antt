@@ -30,7 +30,7 @@ use Rattle.plan.proofs.PlanLaws.{planned-done, labelsOf, messages-are, 
 use Rattle.plan.proofs.PutLaws.{Runs, runs-all}
 use Rattle.plan.proofs.WaitLaws.{awaited-waits}
 use Rattle.plan.proofs.RunLaws.{ran}
-use Rattle.plan.proofs.TurnLaws.{sound-length, Waiting, turns, turns-right-by, turns-untouched-by}
+use Rattle.plan.proofs.TurnLaws.{sound-length, Waiting, turns, turns-nodes, turns-right-by, turns-untouched-by}
 
 -- Two neighbours may change places, so that every order is one of those meant.
 
@@ -190,6 +190,7 @@ module _ (F : List ℕ → List ℕ) (F16 : (m : List ℕ) → length (F m) ≡ 
     like-write =
         let d = outcome-done F a card (write i block ranges) whole in
         record {
+          in-order = turns-nodes M us (begun o);
           each = turns-placed;
           card-is = filled-card puts turns-fill turns-right turns-untouched ∙ sym (ap (λ (q : Outcome). q .card) d);
           anchor-is = filled-anchor puts turns-fill ∙ sym (ap (λ (q : Outcome). q .anchor) d);

@@ -2,7 +2,7 @@
 -- and they fill it.
 use mathlib.Core.Path.{_≡_, refl, sym, ap, subst, _∙_}
 use mathlib.Core.Bool.{true, false}
-use mathlib.Core.List.{List, [], _∷_, List·Memᴰ, List·Memᴰ·head, List·Memᴰ·tail, List·Memᴰ·cases-cons, List·Memᴰ·not-nil}
+use mathlib.Core.List.{List, [], _∷_, map, List·Memᴰ, List·Memᴰ·head, List·Memᴰ·tail, List·Memᴰ·cases-cons, List·Memᴰ·not-nil}
 use mathlib.Core.Logic.{_⊎_, inl, inr, ⊎-elim}
 use Prim.Native.Nat.{ℕ, _+_, _^_, _<_}
 use lib.ListN.{length}
@@ -24,6 +24,12 @@ sound-length s e = record { deep = s .deep; shallow = s .shallow; multiple = s .
 
 abbrev turn : (ℕ → List ℕ) → Going → ℕ → PutStep
 turn M g u = record { card = g .left; node = u; tag = M u }
+
+-- they are at these nodes, in this order
+pub turns-nodes : (M : ℕ → List ℕ) (us : List ℕ) (g : Going) → map (λ (x : PutStep). x .node) (inTurn g M us) ≡ us
+unfolding inTurn
+turns-nodes M [] g = refl
+turns-nodes M (u ∷ us) g = ap (λ (ws : List ℕ). u ∷ ws) (turns-nodes M us (afterPut g (turn M g u)))
 
 -- each had the card as the step before left it, and the tag that is M's
 pub turns-untouched-by : (M : ℕ → List ℕ) (us : List ℕ) (g : Going) → EachPut PutUntouched g (inTurn g M us)

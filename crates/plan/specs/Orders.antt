@@ -2,7 +2,7 @@
 use Prim.Native.Nat.{ℕ}
 use mathlib.Core.Path.{_≡_}
 use mathlib.Core.Bool.{cond}
-use mathlib.Core.List.{List, [], _∷_, List·Memᴰ}
+use mathlib.Core.List.{List, [], _∷_, map, List·Memᴰ}
 use lib.Dec.{eqb}
 use Rattle.tree.specs.Calls.{write, outcome}
 use Rattle.tree.specs.declared.Anchor.{Anchor}
@@ -42,8 +42,9 @@ module _ (F : List ℕ → List ℕ) (a : Anchor) (card : List ℕ) (i : ℕ) (b
   abbrev pub ends : Going
   ends = afterPuts (begun (planned F a card i block ranges)) returned
 
-  -- every put is accepted, and in the end card, anchor and ranges are those of the plain write
+  -- the puts are at us, in that order; every one is accepted, and in the end card, anchor and ranges are those of the plain write
   pub record LikeWrite : Type 0 where
+    pub in-order : map (λ (x : PutStep). x .node) returned ≡ us
     pub each : EachPut Placed (begun (planned F a card i block ranges)) returned
     pub card-is : ends .left ≡ outcome F a card (write i block ranges) .card
     pub anchor-is : ends .anchor ≡ outcome F a card (write i block ranges) .anchor

@@ -95,9 +95,13 @@ pub record Plans (subkeys : ℕ) (each : List ℕ → ℕ) (o : Planned) (buffer
 abbrev pub placeLimit : ℕ → Plan → ℕ → Limit
 placeLimit n p u = record { fails = not (awaits n p u); refusal = NotAwaited }
 
--- 1, 2 and 3, and then 9; a put checks no tag
+-- 1, 2 and 3, and then 9
+abbrev pub putLimits : Anchor → Plan → List ℕ → ℕ → List Limit
+putLimits a p card u = firstLimits a (length card) ++ (placeLimit (a .depth) p u ∷ [])
+
+-- a put checks no tag
 unfoldable pub putAnswer : Anchor → Plan → List ℕ → ℕ → Answer
-putAnswer a p card u = verdict (firstFailing (firstLimits a (length card) ++ (placeLimit (a .depth) p u ∷ []))) none
+putAnswer a p card u = verdict (firstFailing (putLimits a p card u)) none
 
 pub record Put : Type 0 where
   pub answer : Answer

@@ -3,6 +3,7 @@ pub mod Core
 pub mod Events
 pub mod Safe
 pub mod Moves
+pub mod OneWrite
 pub mod Along
 pub mod Steady
 pub mod Agreement

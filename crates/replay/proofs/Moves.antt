@@ -132,7 +132,7 @@ module _ (F : List ℕ → List ℕ) (s : State) (card : List ℕ) where
   same-state t new e f =
       ap₂ (λ (u : Store) (l : List (List ℕ)). let z : State = record { store = u; tagged = l ++ s .tagged } in z) e f
 
-  call-refused : (c : Call) → (answerOf F (s .store .anchor) card c ≡ Whole → ⊥) → next F s (call card c) ≡ s
+  pub call-refused : (c : Call) → (answerOf F (s .store .anchor) card c ≡ Whole → ⊥) → next F s (call card c) ≡ s
   unfolding next
   call-refused c d =
       let k = still-outcome c d in
@@ -140,7 +140,7 @@ module _ (F : List ℕ → List ℕ) (s : State) (card : List ℕ) where
       same-state _ _ (k .0) (ap (λ (b : Bool). cond b (messages (o .anchor) (o .card) (tags (o .anchor .depth) c)) []) (k .1))
 
   -- nor does a refused plan
-  split-refused : (i : ℕ) (block ranges : List ℕ) (puts : List PutStep)
+  pub split-refused : (i : ℕ) (block ranges : List ℕ) (puts : List PutStep)
       → (answerOf F (s .store .anchor) card (write i block ranges) ≡ Whole → ⊥) → next F s (split card i block ranges puts) ≡ s
   unfolding next
   split-refused i block ranges puts d =
@@ -154,7 +154,7 @@ module _ (F : List ℕ → List ℕ) (s : State) (card : List ℕ) where
       (rw e)
 
   -- an accepted call moves what is known by what it does:
-  accepted-moves : (c : Call) → answerOf F (s .store .anchor) card c ≡ Whole
+  pub accepted-moves : (c : Call) → answerOf F (s .store .anchor) card c ≡ Whole
       → next F s (call card c) ≡ record {
         store = moves (s .store) c (done F a card c);
         tagged =
@@ -219,7 +219,7 @@ module _ (F : List ℕ → List ℕ) (F16 : (m : List ℕ) → length (F m) ≡ 
     inside : i < 2 ^ s .store .anchor .depth
     inside = accepted F (s .store .anchor) card (write i block ranges) e .limits-passed .inside
 
-    call-wrote : Wrote F s (call card (write i block ranges)) i block ranges
+    pub call-wrote : Wrote F s (call card (write i block ranges)) i block ranges
     unfolding moved
     call-wrote =
         let a = s .store .anchor in
@@ -236,7 +236,7 @@ module _ (F : List ℕ → List ℕ) (F16 : (m : List ℕ) → length (F m) ≡ 
           untouched = λ u. refl;
         }
 
-    split-wrote : (puts : List PutStep) → Completed F (planned F (s .store .anchor) card i block ranges) puts
+    pub split-wrote : (puts : List PutStep) → Completed F (planned F (s .store .anchor) card i block ranges) puts
         → Wrote F s (split card i block ranges puts) i block ranges
     unfolding next moved
     split-wrote puts k =
@@ -305,7 +305,7 @@ module _ (F : List ℕ → List ℕ) (F16 : (m : List ℕ) → length (F m) ≡ 
       go (Wrong u) d = refl
       go (Refused r) d = refl
 
-  whole-or-not : (o : Answer) → (o ≡ Whole) ⊎ (o ≡ Whole → ⊥)
+  pub whole-or-not : (o : Answer) → (o ≡ Whole) ⊎ (o ≡ Whole → ⊥)
   whole-or-not Whole = inl refl
   whole-or-not (Wrong u) = inr (λ p. let z : _≡_ {A = ℕ} 0 1 = cc in omega arith)
   whole-or-not (Refused r) = inr (λ p. let z : _≡_ {A = ℕ} 0 1 = cc in omega arith)

@@ -267,24 +267,36 @@ module _ (key : List ℕ) where
       subst (λ (m : List ℕ). Tells m (outcome (cmacOf m) (s .store .anchor) card c) back) e h
   step-tells s e (split p qs) h = split-tells (s .store .anchor) e p qs h
 
-  -- what it gave back, after the steps before it
-  abbrev Told : State → List Ran → Ran → Type 0
-  Told s before r = Tells key (result F (after F s (steps before) .store) (stepOf r)) (backOf r)
+  -- what its contract says of it, after the steps before it
+  abbrev Met : State → List Ran → Ran → Type 0
+  Met s before r =
+      let a = after F s (steps before) .store .anchor in
+      (a .key ≡ key) × Meets a r
 
   follows : (rs : List Ran) (s : State) → AllComplete F s (steps rs) → s .store .anchor .key ≡ key → History (s .store .anchor) rs
-      → (p : Place rs) → Told s (p .before) (p .item)
+      → (p : Place rs) → Met s (p .before) (p .item)
   unfolding next after
   follows [] s complete k h = λ p. absurd (no-place p)
   follows (r ∷ rs) s complete k h =
-      let here = step-tells s k r (h .0) in
       let done = complete (first (stepOf r) (steps rs)) in
-      at-places (Told s) r rs here
+      at-places (Met s) r rs (k, h .0)
       (follows rs (next F s (stepOf r)) (λ p. complete (later (stepOf r) p)) (next-key F (length-cmac key) s (stepOf r) done .0 ∙ k)
-      (subst (λ (a : Anchor). History a rs) (moved r s here) (h .1)))
+      (subst (λ (a : Anchor). History a rs) (moved r s (step-tells s k r (h .0))) (h .1)))
     where
       moved : (r : Ran) (s : State) → Tells key (result F (s .store) (stepOf r)) (backOf r)
           → backOf r .anchor ≡ next F s (stepOf r) .store .anchor
       moved r s here = here .gives .anchored
+
+  -- a plan's messages
+  plan-gives : (a : Anchor) → a .key ≡ key → (q : PlanRan) (qs : List PutRan) → Meets a (split q qs) →
+      let given = joined (planned F a (q .card) (q .index) (q .block) (q .ranges) .messages) in
+      q .messages ≡ given ++ drop (length given) (q .buffer)
+  plan-gives a e q qs h =
+      subst
+      (λ (m : List ℕ).
+      let given = joined (planned (cmacOf m) a (q .card) (q .index) (q .block) (q .ranges) .messages) in
+      q .messages ≡ given ++ drop (length given) (q .buffer))
+      e (h .0 .gave)
 
 module _ (key : List ℕ) (n : ℕ) (card : List ℕ) (a : Anchor) (left : List ℕ) (made : Formatted key n card Whole a left) (rs : List Ran)
     (ran : History a rs) (complete : AllComplete (cmacOf key) (start (cmacOf key) key n card) (steps rs)) where
@@ -300,11 +312,17 @@ module _ (key : List ℕ) (n : ℕ) (card : List ℕ) (a : Anchor) (left : List 
   unfolding start format
   keyed = refl
 
+  met : (p : Place rs) → Met key (start (cmacOf key) key n card) (p .before) (p .item)
+  met = follows key rs (start (cmacOf key) key n card) complete keyed (subst (λ (b : Anchor). History b rs) begun-so ran)
+
   pub demand3-of-code : Demand3Of key n card rs
   demand3-of-code =
       record {
         demand = demand3 key n (accepted .deep) (accepted .shallow) card (accepted .full) (steps rs) complete;
         unforged = unforged key n (accepted .deep) (accepted .shallow) card (accepted .full) (steps rs) complete;
         afresh = afresh key n (accepted .deep) (accepted .shallow) card (accepted .full) (steps rs) complete;
-        told = follows key rs (start (cmacOf key) key n card) complete keyed (subst (λ (b : Anchor). History b rs) begun-so ran);
+        gave = λ p q qs e.
+            let a = after (cmacOf key) (start (cmacOf key) key n card) (steps (p .before)) .store .anchor in
+            plan-gives key a (met p .0) q qs (subst (λ (r : Ran). Meets a r) e (met p .1));
+        told = λ p. step-tells key (after (cmacOf key) (start (cmacOf key) key n card) (steps (p .before))) (met p .0) (p .item) (met p .1);
       }

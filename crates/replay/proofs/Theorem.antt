@@ -18,15 +18,18 @@ use Rattle.tree.specs.declared.Answer.{Answer}
 use Rattle.tree.proofs.LimitLaws.{Passes}
 use Rattle.tree.proofs.WriteLaws.{clean-blanked}
 use Rattle.tree.proofs.CallLaws.{wipe-accepts, outcome-answer, format-accept}
+use Rattle.plan.specs.Puts.{PutStep}
 use Rattle.replay.specs.Array.{zeroed}
 use Rattle.replay.specs.Places.{Place}
-use Rattle.replay.specs.Run.{Step, call, cardOf, callOf, State, start, newTags, next, after, renewals}
+use Rattle.replay.specs.Run.{Step, call, split, cardOf, callOf, State, start, newTags, next, after, renewals}
 use Rattle.replay.specs.Claim.{GivenLeft, Complete, Accepted, AcceptedWipe, known, AllComplete, Faithful, Demand3}
+use Rattle.replay.specs.OneWrite.{OneWrite}
 use Rattle.replay.specs.Tagged.{ByCall, Unforged, Afresh}
 use Rattle.replay.proofs.Safe.{Backs, blank-backs}
 use Rattle.replay.proofs.PlaceLaws.{earlier, farther}
 use Rattle.replay.proofs.Along.{after-append}
 use Rattle.replay.proofs.Moves.{new-tags, after-key, after-root}
+use Rattle.replay.proofs.OneWrite.{one-write}
 use Rattle.replay.proofs.Steady.{safe-steady, steady-after}
 use Rattle.replay.proofs.Agreement.{agreement}
 use Rattle.replay.proofs.Since.{blank-tagged, blank-named, named-blank, Good, good-made, made-empty}
@@ -147,6 +150,7 @@ module _ (F : List ℕ → List ℕ) (F16 : (m : List ℕ) → length (F m) ≡ 
           checked = λ p f u. checked-here F F16 begun good-start complete p f u;
           agrees = λ p f u. agrees-here F F16 begun good-start complete p f u;
           unforged = none-forged F F16 xs begun complete good-start;
+          checks-unforged = λ s x tagged f. f .untagged (tagged (f .node) (f .checked));
           counted = counted-any;
           agreed = honest-agrees F F16 xs begun complete good-start;
           wipes = wipes-any;
@@ -190,3 +194,12 @@ module _ (key : List ℕ) (n : ℕ) (deep : 1 ≤ n) (shallow : n ≤ 16) (card 
   pub key-kept : (after (cmacOf key) (start (cmacOf key) key n card) xs .store .anchor .key ≡ key)
       × (after (cmacOf key) (start (cmacOf key) key n card) xs .store .anchor .depth ≡ n)
   key-kept = key-any (cmacOf key) (length-cmac key) key n deep shallow card full complete
+
+  -- a split write of the list is one write
+  pub one-write-there : (p : Place xs) (other : List ℕ) (i : ℕ) (block ranges : List ℕ) (puts : List PutStep)
+      → p .item ≡ split other i block ranges puts
+      → OneWrite (cmacOf key) (known (cmacOf key) (start (cmacOf key) key n card) p) other i block ranges puts
+  one-write-there p other i block ranges puts e =
+      let s = known (cmacOf key) (start (cmacOf key) key n card) p in
+      one-write (cmacOf key) (length-cmac key) s other i block ranges puts
+      (subst (λ (x : Step). Complete (cmacOf key) (s .store) x) e (complete p))

@@ -256,6 +256,8 @@ module _ (F : List ℕ → List ℕ) (F16 : (m : List ℕ) → length (F m) ≡ 
       record {
         honest-none = λ p. absurd (no-place p);
         honest-more = λ xs x f h. at-more (Fair F s) xs x f (λ a d. h a);
+        untouched-call = λ xs c. refl;
+        given-left = λ xs x e. e;
         honest-wiped = λ xs card f. at-more (Fair F s) xs (call card wipe) f (λ a d. absurd (d refl));
         faithful-none = λ p. absurd (no-place p);
         faithful-more = holds-more (Wipes F s) (Writes F s);

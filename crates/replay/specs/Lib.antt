@@ -3,5 +3,6 @@ pub mod Array
 pub mod Places
 pub mod Run
 pub mod Claim
+pub mod OneWrite
 pub mod Tagged
 pub mod Ran

@@ -1,15 +1,16 @@
 -- Calls of the code as they ran: what each was given and what it gave back, as its contract has it.
 use mathlib.Core.Path.{_≡_}
 use mathlib.Core.Bool.{cond}
-use mathlib.Core.List.{List, [], _∷_, map}
+use mathlib.Core.List.{List, [], _∷_, _++_, map}
 use Prim.Native.Nat.{ℕ}
+use lib.ListN.{length, drop}
 use Rattle.cmac.specs.Cmac.{cmacOf}
 use Rattle.cmac.specs.Traced.{subkeysCount, cmacCount}
 use Rattle.tree.specs.Answer.{isWhole}
 use Rattle.tree.specs.Calls.{Call, wipe, Outcome, Gives, Reports, outcome, format}
 use Rattle.tree.specs.declared.Anchor.{Anchor}
 use Rattle.tree.specs.declared.Answer.{Answer}
-use Rattle.plan.specs.Split.{planned, Plans, put, Puts}
+use Rattle.plan.specs.Split.{planned, joined, Plans, put, Puts}
 use Rattle.plan.specs.Puts.{PutStep}
 use Rattle.plan.specs.declared.Plan.{Plan}
 use Rattle.replay.specs.Places.{Place}
@@ -117,12 +118,18 @@ pub record Runs (a : Anchor) (xs : List Step) : Type 0 where
   pub are : steps calls ≡ xs
 
 -- Of the calls that ran after a format, every split write among them complete: demand 3 holds of their list, what is tagged is as stated, a
--- wipe stands where the format did, and each step answered, counted and left what the list has at its place.
+-- wipe stands where the format did, each plan handed out its messages, and each step answered, counted and left what the list has at its
+-- place.
 pub record Demand3Of (key : List ℕ) (n : ℕ) (card : List ℕ) (rs : List Ran) : Type 0 where
   pub demand : Demand3 (cmacOf key) (start (cmacOf key) key n card) (steps rs)
   pub unforged : Unforged (cmacOf key) (start (cmacOf key) key n card) n (steps rs)
   pub afresh : (p : Place (steps rs)) → Accepted (cmacOf key) (known (cmacOf key) (start (cmacOf key) key n card) p .store) (p .item)
       → callOf (p .item) ≡ wipe → Afresh (cmacOf key) (start (cmacOf key) key n card) n p
+  -- the bytes that a plan handed out begin with its messages, and are behind them what the buffer had
+  pub gave : (p : Place rs) (q : PlanRan) (qs : List PutRan) → p .item ≡ split q qs →
+      let a = after (cmacOf key) (start (cmacOf key) key n card) (steps (p .before)) .store .anchor in
+      let given = joined (planned (cmacOf key) a (q .card) (q .index) (q .block) (q .ranges) .messages) in
+      q .messages ≡ given ++ drop (length given) (q .buffer)
   pub told : (p : Place rs)
       → Tells key (result (cmacOf key) (after (cmacOf key) (start (cmacOf key) key n card) (steps (p .before)) .store) (stepOf (p .item)))
       (backOf (p .item))

@@ -20,7 +20,7 @@ use Rattle.plan.specs.Orders.{Rearranged, returned}
 use Rattle.plan.specs.Rule.{Waits}
 use Rattle.replay.specs.Run.{Step, call, split, cardOf, callOf, State, newTags, result, next, after}
 use Rattle.replay.specs.Claim.{GivenLeft, ChecksTagged, Complete, Untouched, Accepted, AgreesHere, known, Everywhere, AllComplete}
-use Rattle.replay.specs.Claim.{Agreement, Forgery, Faithful, Demand3}
+use Rattle.replay.specs.Claim.{Agreement, Forged, Forgery, Faithful, Demand3}
 
 -- m is the message of a node of the blank card of depth n whose nonces are all t: a format tags these at 0, a wipe at its new root nonce
 pub record BlankTags (n t : ℕ) (m : List ℕ) : Type 0 where
@@ -72,6 +72,8 @@ module _ (F : List ℕ → List ℕ) (s₀ : State) where
         → AgreesHere F (known F s₀ p) (p .item)
     -- where every accepted call but a wipe had an untouched card there is no forgery, and the agreement holds outright
     pub unforged : Honest xs → Forgery F s₀ xs → ⊥
+    -- nor at a step that checks messages alone which were tagged before it, whatever its card
+    pub checks-unforged : (s : State) (x : Step) → ChecksTagged s x → Forged F s x → ⊥
     pub agreed : Honest xs → Agreement F s₀ xs
     -- while nonces last, a wipe of any card of the right length is accepted after the list, whatever was done before
     pub wipes : (card : List ℕ) → length card ≡ cardLength n → after F s₀ xs .store .anchor .root .0 + n < 2 ^ 64
@@ -97,6 +99,11 @@ pub record GoesOn (F : List ℕ → List ℕ) (s₀ : State) : Type 0 where
   pub honest-more : (xs : List Step) (x : Step) → Honest F s₀ xs
       → (result F (after F s₀ xs .store) x .answer ≡ Whole → Untouched F (after F s₀ xs .store) x) → Honest F s₀ (xs ++ (x ∷ []))
   pub honest-wiped : (xs : List Step) (card : List ℕ) → Honest F s₀ xs → Honest F s₀ (xs ++ (call card wipe ∷ []))
+  -- a call has an untouched card where it is the one as last left, whatever the call; and that is all which is asked of the step itself
+  pub untouched-call : (xs : List Step) (c : Call) →
+      let s = after F s₀ xs .store in
+      Untouched F s (call (s .left) c)
+  pub given-left : (xs : List Step) (x : Step) → cardOf x ≡ after F s₀ xs .store .left → GivenLeft (after F s₀ xs .store) x
   pub faithful-none : Faithful F s₀ []
   pub faithful-more : (xs : List Step) (x : Step) → Faithful F s₀ xs
       → (result F (after F s₀ xs .store) x .answer ≡ Whole → isWrite (callOf x) ≡ true → Untouched F (after F s₀ xs .store) x)

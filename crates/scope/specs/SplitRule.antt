@@ -1,16 +1,15 @@
 -- Document 02 on a write that is split into a plan and its puts, at CMAC and for every input.
 use mathlib.Core.Path.{_≡_}
-use mathlib.Core.List.{List, [], _∷_, _++_, map}
+use mathlib.Core.List.{List, [], _∷_, map}
 use Prim.Native.Nat.{ℕ, _+_, _*_}
-use lib.ListN.{length}
 use Rattle.cmac.specs.Cmac.{cmacOf}
 use Rattle.cmac.specs.Traced.{subkeysCount, cmacCount}
-use Rattle.tree.specs.Calls.{write, firstLimits, total, countOf}
+use Rattle.tree.specs.Calls.{write, total, countOf}
 use Rattle.tree.specs.declared.Anchor.{Anchor}
 use Rattle.tree.specs.declared.Node.{Node}
 use Rattle.tree.specs.declared.Refusal.{Refusal}
 use Rattle.tree.specs.declared.Answer.the-variants.{Whole, Wrong, Refused}
-use Rattle.plan.specs.Split.{Given, Planned, planned, placeLimit}
+use Rattle.plan.specs.Split.{Given, Planned, planned, putLimits}
 use Rattle.plan.specs.Orders.{Rearranged, LikeWrite}
 use Rattle.plan.specs.Rule.{nodesOf, PlanRule, PutRule}
 use Rattle.plan.specs.declared.Plan.{Plan}
@@ -32,7 +31,7 @@ module _ (a : Anchor) (card : List ℕ) (i : ℕ) (block ranges : List ℕ) wher
     pub plans : PlanRule (cmacOf (a .key)) a card i block ranges
     pub puts : (p : Plan) (u : ℕ) (x : List ℕ) → PutRule a p card u x
     -- the order of a put's refusals
-    pub put-order : (p : Plan) (u : ℕ) → numbers (firstLimits a (length card) ++ (placeLimit (a .depth) p u ∷ [])) ≡ 1 ∷ 2 ∷ 3 ∷ 9 ∷ []
+    pub put-order : (p : Plan) (u : ℕ) → numbers (putLimits a p card u) ≡ 1 ∷ 2 ∷ 3 ∷ 9 ∷ []
     -- "for every order of return the final card is the one a plain write leaves", anchor and ranges too
     pub orders : split .call .answer ≡ Whole → (us : List ℕ) → Rearranged us (nodesOf (split .messages))
         → LikeWrite (cmacOf (a .key)) a card i block ranges us

@@ -135,15 +135,16 @@ static void try_sets(struct store *s, const struct store *wiped) {
     }
 }
 
-// Every byte of the key and of T altered: no read, write or check is accepted.
+// Every byte of the key and of T altered: no read, write, check or plan is accepted.
 static void try_anchor(struct store *s) {
+    static const enum call calls[] = {READ, WRITE, CHECK, PLAN};
     for (size_t byte = 0; byte < PAT_ANCHOR_BYTES; byte++) {
         if (byte >= PAT_ANCHOR_DEPTH && byte < PAT_ANCHOR_ROOT)
             continue;
         s->anchor[byte] ^= 0x10;
-        for (enum call call = READ; call <= CHECK; call++) {
+        for (size_t k = 0; k < sizeof calls / sizeof *calls; k++) {
             static const uint8_t block[PAT_BLOCK_BYTES];
-            struct arguments a = arguments_for(call, s, 1, block);
+            struct arguments a = arguments_for(calls[k], s, 1, block);
             struct outcome o = perform(&a);
             expect(o.answer != 0 && all_unchanged(&o), "byte %zu of the anchor altered: refused",
                    byte);

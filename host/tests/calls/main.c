@@ -18,7 +18,7 @@ static const struct {
     {"the write in place against the write", test_in_place},
     {"known answers of split writes", test_known_plans},
     {"split writes against writes", test_plans},
-    {"orders of tags, wrong tags and plans given up", test_orders},
+    {"orders of tags, wrong and late tags, plans given up", test_orders},
     {"puts under plans of any bytes", test_puts},
 };
 

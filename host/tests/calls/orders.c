@@ -1,5 +1,5 @@
-// Every order in which the tags of a small card can come; tags that are wrong, and what finds them;
-// and plans that are given up.
+// Every order in which the tags of a small card can come; tags that are wrong or late, and what
+// finds them; and plans that are given up.
 #include "split.h"
 #include "tests.h"
 
@@ -72,6 +72,10 @@ static void try_wrong(const struct store *s, uint64_t index, uint64_t wrong) {
         must_put(&split, nodes[k], tag);
     }
     uint64_t due = 8 + 256 * wrong;
+    expect(answer_of(READ, &split.store, index) == due ||
+               answer_of(PLAN, &split.store, index) == due,
+           "a read or another plan of the block finds the tag put at node %llu",
+           (unsigned long long)wrong);
     expect(answer_of(CHECK, &split.store, 0) == due, "a check finds the tag put at node %llu",
            (unsigned long long)wrong);
     for (uint64_t i = 0; i >> s->depth == 0; i++) {
@@ -112,6 +116,46 @@ static void give_up(const struct store *s, uint64_t index, size_t some) {
     drop_store(&other_end);
 }
 
+// A split write with right tags on a card that is damaged elsewhere: a read and another plan of the
+// block are accepted, where a check is not.
+static void try_damaged(const struct store *s, uint64_t index) {
+    uint64_t nodes[MOST_MESSAGES], half = (uint64_t)1 << (s->depth - 1);
+    uint64_t far = ((uint64_t)1 << s->depth) + (index ^ half);
+    struct store damaged = copy_store(s);
+    damaged.card[start_of(s->depth, far)] ^= 1;
+    struct store end = written(&damaged, index);
+    struct split split = must_plan(&damaged, index, round_bytes);
+    size_t count = list_nodes(s->depth, index, nodes);
+    for (size_t k = 0; k < count; k++)
+        must_put(&split, nodes[k], tag_of(&end, nodes[k]));
+    expect(answer_of(READ, &split.store, index) == 0 && answer_of(PLAN, &split.store, index) == 0,
+           "the tags that were put are right");
+    expect(answer_of(CHECK, &split.store, 0) == 8 + 256 * far, "the damage is still there");
+    drop_split(&split);
+    drop_store(&end);
+    drop_store(&damaged);
+}
+
+// The tag of a plan that was given up comes late and is put under the next plan of the block: it is
+// taken, its own is then refused, and a read of the block finds it.
+static void come_late(const struct store *s, uint64_t index) {
+    static const uint8_t other[PAT_BLOCK_BYTES] = "another round";
+    uint64_t nodes[MOST_MESSAGES], leaf = ((uint64_t)1 << s->depth) + index;
+    struct store given_up = written(s, index), end = copy_store(s);
+    must_write(&end, index, other);
+    struct split split = must_plan(s, index, other);
+    size_t count = list_nodes(s->depth, index, nodes);
+    must_put(&split, leaf, tag_of(&given_up, leaf));
+    must_refuse(&split, leaf);
+    for (size_t k = 0; k < count; k++)
+        if (nodes[k] != leaf)
+            must_put(&split, nodes[k], tag_of(&end, nodes[k]));
+    expect(answer_of(READ, &split.store, index) == 8 + 256 * leaf, "a read finds the late tag");
+    drop_split(&split);
+    drop_store(&given_up);
+    drop_store(&end);
+}
+
 void test_orders(void) {
     for (uint64_t index = 0; index < 2; index++)
         try_orders(1, index, 2);
@@ -127,6 +171,9 @@ void test_orders(void) {
                 try_wrong(&s, index, nodes[k]);
                 give_up(&s, index, k);
             }
+            come_late(&s, index);
+            if (depth > 1)
+                try_damaged(&s, index);
         }
         drop_store(&s);
     }
