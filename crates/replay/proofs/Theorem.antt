@@ -150,9 +150,9 @@ module _ (F : List ℕ → List ℕ) (F16 : (m : List ℕ) → length (F m) ≡ 
           checked = λ p f u. checked-here F F16 begun good-start complete p f u;
           agrees = λ p f u. agrees-here F F16 begun good-start complete p f u;
           unforged = none-forged F F16 xs begun complete good-start;
-          checks-unforged = λ s x tagged f. f .untagged (tagged (f .node) (f .checked));
           counted = counted-any;
           agreed = honest-agrees F F16 xs begun complete good-start;
+          checks-unforged = λ s x tagged f. f .untagged (tagged (f .node) (f .checked));
           wipes = wipes-any;
         }
 

@@ -72,9 +72,9 @@ module _ (F : List ℕ → List ℕ) (s₀ : State) where
         → AgreesHere F (known F s₀ p) (p .item)
     -- where every accepted call but a wipe had an untouched card there is no forgery, and the agreement holds outright
     pub unforged : Honest xs → Forgery F s₀ xs → ⊥
-    -- nor at a step that checks messages alone which were tagged before it, whatever its card
-    pub checks-unforged : (s : State) (x : Step) → ChecksTagged s x → Forged F s x → ⊥
     pub agreed : Honest xs → Agreement F s₀ xs
+    -- a step that checks messages alone which were tagged before it is no forgery, whatever its card
+    pub checks-unforged : (s : State) (x : Step) → ChecksTagged s x → Forged F s x → ⊥
     -- while nonces last, a wipe of any card of the right length is accepted after the list, whatever was done before
     pub wipes : (card : List ℕ) → length card ≡ cardLength n → after F s₀ xs .store .anchor .root .0 + n < 2 ^ 64
         → Accepted F (after F s₀ xs .store) (call card wipe)
