@@ -1,4 +1,6 @@
 // The calls of the tree. Each tests its limits in their order and leaves with the first that fails; what it does then is in `work`.
+#![tactic(auto)]
+
 ghost use Rattle.std.specs.Prelude.{◌≡◌, []};
 ghost use Rattle.cmac.specs.Cmac.{cmac_of};
 ghost use Rattle.cmac.specs.Traced.{subkeys_count, cmac_count};
@@ -12,7 +14,7 @@ use tree::{Anchor, Answer, BlockIndex, Nonce, Refusal, Reply, Report, limits};
 const UNCOUNTED: u64 = 0;
 
 // What format gives back: no count goes with it.
-#[derive(Drop)]
+#[derive(Clone, Copy)]
 pub struct Made {
     pub answer: Answer,
     pub anchor: Anchor,

@@ -14,7 +14,7 @@ use tree::limits::Test;
 use tree::{Node, Nonce, layout};
 
 // Whether a tag is right, with the count of the cipher's calls for it.
-#[derive(Drop)]
+#[derive(Clone, Copy)]
 pub struct Tested {
     pub test: Test,
     pub count: u64,

@@ -14,7 +14,7 @@ use tree::limits::Test;
 use tree::{Answer, BlockIndex, Node, Nonce, path};
 
 // What the checks found, with the count of the cipher's calls for them.
-#[derive(Drop)]
+#[derive(Clone, Copy)]
 pub struct Found {
     pub answer: Answer,
     pub count: u64,

@@ -1,5 +1,7 @@
 // AES-128 encryption, FIPS 197. The tables of the crate `tables` are made once and lent; `key::expand` makes the expanded key, and
 // `encrypt` runs the ten rounds over it.
+#![tactic(auto)]
+
 pub mod key;
 mod round;
 

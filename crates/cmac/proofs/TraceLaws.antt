@@ -9,7 +9,7 @@ use Rattle.words.specs.Bytes.{part, xor_block}
 use Rattle.cipher.specs.Cipher.{cipher_of, encrypt_of}
 use Rattle.cmac.specs.Cmac.{zeros, subkey1, subkey2, blocks, message_block, last_block, chain, cmac_with}
 use Rattle.cmac.specs.Context.{ContextOf}
-use Rattle.cmac.specs.Traced.{subkeys_traced, chain_traced, cmac_traced, subkeys_count, cmac_count, count_under_lem}
+use Rattle.cmac.specs.Traced.{subkeys_traced, chain_traced, cmac_traced, subkeys_count, cmac_count, count_under}
 use Rattle.cmac.specs.declared.Context.{Context}
 use Rattle.cmac.proofs.Count.{some-blocks, blocks-bound}
 
@@ -74,23 +74,23 @@ pub cmac-count : (key m : List ℕ) → cmac_count key m ≡ blocks (length m)
 unfolding cmac_count
 cmac-count key m = trace-length (encrypt_of key) (subkey1 (encrypt_of key)) (subkey2 (encrypt_of key)) m
 
-pub count_under_lem : (schedule subkeys m : List ℕ) → count_under_lem schedule subkeys m ≡ blocks (length m)
-unfolding count_under_lem
+pub count_under_lem : (schedule subkeys m : List ℕ) → count_under schedule subkeys m ≡ blocks (length m)
+unfolding count_under
 count_under_lem schedule subkeys m = trace-length (cipher_of schedule) (part subkeys 0 16) (part subkeys 16 16) m
 
 -- a call for every 16 bytes, and at most one more
-pub count-bound : (schedule subkeys m : List ℕ) → 16 * count_under_lem schedule subkeys m ≤ length m + 16
+pub count-bound : (schedule subkeys m : List ℕ) → 16 * count_under schedule subkeys m ≤ length m + 16
 count-bound schedule subkeys m = omega (arith, count_under_lem schedule subkeys m, blocks-bound (length m))
 
 -- with zeros for the subkeys, the zero block takes as many as the subkeys do
 pub count-of-zeros : (schedule : List ℕ)
-    → count_under_lem schedule (replicate 32 0) (replicate 16 0) ≡ length (subkeys_traced (cipher_of schedule)).trace
+    → count_under schedule (replicate 32 0) (replicate 16 0) ≡ length (subkeys_traced (cipher_of schedule)).trace
 unfolding blocks
 count-of-zeros schedule =
     count_under_lem schedule (replicate 32 0) (replicate 16 0) ∙ sym (ap length (subkeys-trace (cipher_of schedule)))
 
 -- the counts of a context are those of its key
-pub counts-of-context : (key : List ℕ) (x : Context) → ContextOf key x → count_under_lem x.schedule x.subkeys ≡ cmac_count key
+pub counts-of-context : (key : List ℕ) (x : Context) → ContextOf key x → count_under x.schedule x.subkeys ≡ cmac_count key
 counts-of-context key x h = fun_ext (λ m. count_under_lem x.schedule x.subkeys m ∙ sym (cmac-count key m))
 
 -- the tree's messages: 17 bytes take two calls, 73 take five

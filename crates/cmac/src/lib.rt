@@ -1,5 +1,7 @@
 // AES-CMAC, RFC 4493. A caller makes the cipher's table and a context once, and lends the table and the context's two parts to every
 // tag.
+#![tactic(auto)]
+
 mod message;
 mod subkey;
 
@@ -19,7 +21,7 @@ pub struct Context {
 }
 
 // A tag as a block, with the count of the cipher's calls for it.
-#[derive(Drop)]
+#[derive(Clone, Copy)]
 pub struct Tagged {
     pub block: Block,
     pub count: u64,

@@ -1,4 +1,6 @@
 // Long histories of calls on hostile cards, printed step by step. The file stdout has what an independent implementation prints.
+#![tactic(auto)]
+
 mod history;
 mod log;
 mod step;

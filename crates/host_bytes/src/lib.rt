@@ -1,5 +1,7 @@
 // What the functions for C have instead of structs and enums: an anchor and a plan as bytes, an answer as one number. specs/ has the
 // definitions of all of these functions.
+#![tactic(auto)]
+
 pub mod anchor;
 pub mod code;
 pub mod plan_bytes;

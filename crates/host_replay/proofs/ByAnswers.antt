@@ -22,7 +22,7 @@ use Rattle.replay.specs.Claim
 use Rattle.replay.proofs.PlaceLaws.{first, later}
 use Rattle.host_bytes.specs.Host.{code_of}
 use Rattle.host_replay.specs.Called.{Called, call, split, put_steps, step_of, steps, back_of}
-use Rattle.host_replay.specs.Plain.{whole, called, left_by_lem, array_by, renewals_by, Each, Untouched}
+use Rattle.host_replay.specs.Plain.{whole, called, left_by, array_by, renewals_by, Each, Untouched}
 use Rattle.host_replay.proofs.Theorem.{Tells, split-stood, Follows}
 use Rattle.host_replay.proofs.SplitSteps.{code_is, split-untouched}
 
@@ -70,11 +70,11 @@ module _ (key : List ℕ) where
   rest s r rs f p = f (later r p)
 
   pub left_by_lem : (rs : List Called) (s : State) → Each rs (Tells key s)
-      → (after (cmac_of key) s (steps rs)).store.left ≡ left_by_lem s.store.left rs
+      → (after (cmac_of key) s (steps rs)).store.left ≡ left_by s.store.left rs
   unfolding after
   left_by_lem [] s f = refl
   left_by_lem (r ∷ rs) s f =
-      left_by_lem rs (next F s (step_of r)) (rest s r rs f) ∙ ap (λ (l : List ℕ). left_by_lem l rs) (next-left s r (f (first r rs)))
+      left_by_lem rs (next F s (step_of r)) (rest s r rs f) ∙ ap (λ (l : List ℕ). left_by l rs) (next-left s r (f (first r rs)))
 
   pub array-by : (rs : List Called) (s : State) → Each rs (Tells key s)
       → (after (cmac_of key) s (steps rs)).store.array ≡ array_by s.store.array rs

@@ -9,7 +9,7 @@ use Rattle.replay.proofs.PlaceLaws.{first, later, no_place, at_more, HoldsSince,
 use Rattle.replay.proofs.Unforged.{write-not-wipe}
 use Rattle.host_bytes.specs.Host.{anchor_of}
 use Rattle.host_replay.specs.Called.{PutCalled, Called, last_card, back_of}
-use Rattle.host_replay.specs.Plain.{called, left_by_lem, PutsUntouched, Untouched, WritesUntouched, FilledIn, PlainGoesOn}
+use Rattle.host_replay.specs.Plain.{called, left_by, PutsUntouched, Untouched, WritesUntouched, FilledIn, PlainGoesOn}
 use Rattle.host_replay.proofs.Runs.{turns-run}
 use Rattle.host_replay.proofs.InTurn.{split-goes-on}
 
@@ -18,11 +18,11 @@ module _ (left : List ℕ) where
   Wipes before r = ((back_of r).code ≡ 0) × (called r ≡ wipe)
 
   abbrev pub Writes : List Called → Called → Type 0
-  Writes before r = (back_of r).code ≡ 0 → is_write (called r) ≡ true → Untouched (left_by_lem left before) r
+  Writes before r = (back_of r).code ≡ 0 → is_write (called r) ≡ true → Untouched (left_by left before) r
 
   -- what is asked of a call of a list on untouched cards
   abbrev pub Fair : List Called → Called → Type 0
-  Fair before r = (back_of r).code ≡ 0 → (called r ≡ wipe → ⊥) → Untouched (left_by_lem left before) r
+  Fair before r = (back_of r).code ≡ 0 → (called r ≡ wipe → ⊥) → Untouched (left_by left before) r
 
   since : (rs : List Called) → HoldsSince Wipes Writes rs → WritesUntouched left rs
   since rs f p none = f p (λ q b w. none q b w.0 w.1)

@@ -26,7 +26,7 @@ use Rattle.host_bytes.specs.Host.{anchor_of, code_of}
 use Rattle.host_bytes.proofs.AnchorLaws.{code-whole, whole_code}
 use Rattle.host_replay.specs.Called.{Held, bytes, anchor_in, Called, call, step_of, steps, back_of, History, Formatted}
 use Rattle.host_replay.specs.Called.{begin, Demand3Of}
-use Rattle.host_replay.specs.Plain.{whole, called, shown, left_by_lem, array_by, counted, renewals_by, Shows, Each, Agreed, Untouched}
+use Rattle.host_replay.specs.Plain.{whole, called, shown, left_by, array_by, counted, renewals_by, Shows, Each, Agreed, Untouched}
 use Rattle.host_replay.specs.Plain.{AllUntouched, Unwiped, WritesUntouched, AllFilled, PlainDemand}
 use Rattle.host_replay.proofs.Theorem.{Tells, filled-complete, followed, demand3-of-calls}
 use Rattle.host_replay.proofs.SplitSteps.{code_is}
@@ -61,8 +61,8 @@ module _ (anchor card made left : List ℕ) (formatted : Formatted anchor card 0
   tells : (p : Place rs) → Each p.before (Tells (anchor_of anchor).key (begin anchor card))
   tells p q = demand.told (earlier p q)
 
-  left_is : (p : Place rs) → (store p).left ≡ left_by_lem left p.before
-  left_is p = left_by_lem k p.before s₀ (tells p) ∙ ap (λ (l : List ℕ). left_by_lem l p.before) (sym demand.formatted)
+  left_is : (p : Place rs) → (store p).left ≡ left_by left p.before
+  left_is p = left_by_lem k p.before s₀ (tells p) ∙ ap (λ (l : List ℕ). left_by l p.before) (sym demand.formatted)
 
   zeroed-is : (begin anchor card).store.array ≡ zeroed (2 ^ (anchor_of anchor).depth)
   unfolding start
@@ -124,7 +124,7 @@ module _ (anchor card made left : List ℕ) (formatted : Formatted anchor card 0
       sum t m c w d p q e = rw (p, q, e) (sym (add-mul w c (anchor_of anchor).depth))
 
   -- what is untouched is so in the list
-  untouched-at : (p : Place rs) → (back_of p.item).code ≡ 0 → Untouched (left_by_lem left p.before) p.item
+  untouched-at : (p : Place rs) → (back_of p.item).code ≡ 0 → Untouched (left_by left p.before) p.item
       → Claim.Untouched (cmac_of (anchor_of anchor).key) (store p) (step_of p.item)
   untouched-at p zero u =
       untouched-here k p.item (after (cmac_of k) s₀ (steps p.before)) (followed anchor card made left formatted rs ran complete p) zero
@@ -133,7 +133,7 @@ module _ (anchor card made left : List ℕ) (formatted : Formatted anchor card 0
   -- an accepted place of the list is a call that answered 0
   untouched : (q : Place (steps rs))
       → Accepted (cmac_of (anchor_of anchor).key) (known (cmac_of (anchor_of anchor).key) (begin anchor card) q).store q.item
-      → ((i : Image step_of rs q) → (back_of i.place.item).code ≡ 0 → Untouched (left_by_lem left i.place.before) i.place.item)
+      → ((i : Image step_of rs q) → (back_of i.place.item).code ≡ 0 → Untouched (left_by left i.place.before) i.place.item)
       → Claim.Untouched (cmac_of (anchor_of anchor).key) (known (cmac_of (anchor_of anchor).key) (begin anchor card) q).store q.item
   untouched q w f =
       let i = image step_of rs q in
@@ -199,7 +199,7 @@ module _ (anchor card made left : List ℕ) (formatted : Formatted anchor card 0
   complete : AllComplete (cmac_of (anchor_of anchor).key) (begin anchor card) (steps rs)
   complete = filled-complete anchor card made left formatted rs ran filled
 
-  quiet : Each rs (λ before r. WritesUntouched left before → shown r ≡ left_by_lem left before → (u : ℕ) → (back_of r).code ≡ 8 + 256 * u → ⊥)
+  quiet : Each rs (λ before r. WritesUntouched left before → shown r ≡ left_by left before → (u : ℕ) → (back_of r).code ≡ 8 + 256 * u → ⊥)
   quiet p f same u code =
       let early = front-ran (bytes made) p.before (p.item ∷ p.behind) (subst (History (bytes made)) p.is ran) in
       let before = complete-before anchor card made left formatted rs ran complete p in

@@ -1,5 +1,7 @@
 // A plan and a put of a tag as C has them: the anchor, the plan and the messages are bytes, and the answer is one number. Another length of
 // any of these is refused before the rest.
+#![tactic(auto)]
+
 ghost use Rattle.host_bytes.specs.Split.{host_plan, HostsPlan, host_put, HostsPut};
 
 use host_bytes::{

@@ -68,7 +68,7 @@ fn put_old(depth: u64, drawn: u64, old: &[u8], mixed: &mut [u8])
 }
 
 // Where an entry begins and ends.
-#[derive(Drop)]
+#[derive(Clone, Copy)]
 struct Span {
     start: usize,
     end: usize,

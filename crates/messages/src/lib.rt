@@ -1,4 +1,6 @@
 // The messages that a plan gives, end to end in a buffer, in rising node number.
+#![tactic(auto)]
+
 ghost use Rattle.std.specs.Prelude.{◌≡◌, ◌++◌, map, ◌+◌, ◌*◌, ◌^◌, ◌≤◌, ◌<◌, length, drop};
 ghost use Rattle.std.proofs.lemmas.List.Edits.{sets};
 ghost use Rattle.tree.specs.Layout.{IsNode, IsCard, size};

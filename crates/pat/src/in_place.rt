@@ -7,7 +7,7 @@ use host_bytes::code;
 use tree::{Anchor, BlockIndex};
 
 // What it answers.
-#[derive(Drop)]
+#[derive(Clone, Copy)]
 pub(crate) struct Reply {
     pub code: u64,
     pub anchor: Anchor,

@@ -3,6 +3,8 @@
 // each, big-endian; the write in place has it as a struct. A plan is 24 bytes: block number, new root nonce and filled places, in the same
 // way. A plan's messages have 656 bytes at every depth, a tag 16. The answer is the refusal's number plus 256 times the node, 0 when
 // accepted. It leaves out how often the cipher was called.
+#![tactic(auto)]
+
 mod in_place;
 
 ghost use Rattle.std.specs.Prelude.{[]};

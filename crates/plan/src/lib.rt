@@ -1,5 +1,7 @@
 // The plan of a write whose tags come singly: which nodes it waits for, and which of them are filled. specs/ has the definitions of the two
 // calls, a plan and a put.
+#![tactic(auto)]
+
 ghost use Rattle.std.specs.Prelude.{◌≡◌, true, ◌^◌, ◌≤◌, ◌<◌};
 ghost use Rattle.tree.specs.Tests.{passing};
 ghost use Rattle.plan.specs.Places.{place_in, plan_nodes, awaits, fill, full};
@@ -9,7 +11,7 @@ use tree::{BlockIndex, Node, Nonce, layout, path};
 
 // What is kept between a plan and its last tag, and trusted like the anchor: the block's number, the root nonce that the last tag brings,
 // and a bit for each place, set where its tag was put.
-#[derive(Drop)]
+#[derive(Clone, Copy)]
 pub struct Plan {
     pub index: BlockIndex,
     pub root: Nonce,

@@ -1,4 +1,6 @@
 // What the static libraries for tests and benchmarks share.
+#![tactic(auto)]
+
 ghost use Rattle.std.specs.Prelude.{◌≡◌, length};
 
 // A key of 16 bytes.

@@ -1,5 +1,7 @@
 // CMAC for tests and benchmarks in other languages. A slice passes as a pointer and a length. Each call answers 0, or 1 where a length is
 // not the one wanted, and then it changes nothing.
+#![tactic(auto)]
+
 mod work;
 
 ghost use Rattle.std.specs.Prelude.{◌&&◌, leb, length};

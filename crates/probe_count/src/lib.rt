@@ -1,5 +1,7 @@
 // The calls' counts, for tests in other languages. A slice passes as a pointer and a length. Each function makes the call with the anchor's
 // three parts and answers the count; a key that has not 16 bytes gets 0, and then it changes nothing; so do messages that have not 656.
+#![tactic(auto)]
+
 ghost use Rattle.std.specs.Prelude.{◌≡◌, [], length};
 ghost use Rattle.tree.specs.Calls.{read, write, check, wipe};
 ghost use Rattle.probe_count.specs.Counted.{anchor_of, Counted, CountedPlan};

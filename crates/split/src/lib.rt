@@ -1,5 +1,7 @@
 // A write split into a plan and its puts, for a box with several cipher engines (document 02, T-03): the plan makes a write's checks, lays
 // its labels on the card and gives the messages; the engines return the tags singly, and each is put in a step of its own.
+#![tactic(auto)]
+
 mod within;
 
 ghost use Rattle.std.specs.Prelude.{◌≡◌, length};
@@ -12,7 +14,7 @@ use tree::limits::Test;
 use tree::{Anchor, Answer, BlockIndex, Node, Refusal, layout, limits};
 
 // What a plan gives back. The anchor is as it was.
-#[derive(Drop)]
+#[derive(Clone, Copy)]
 pub struct Planned {
     pub answer: Answer,
     pub plan: Plan,
@@ -20,7 +22,7 @@ pub struct Planned {
 }
 
 // What a put gives back.
-#[derive(Drop)]
+#[derive(Clone, Copy)]
 pub struct Placed {
     pub answer: Answer,
     pub anchor: Anchor,

@@ -1,5 +1,7 @@
 // Split writes as steps of a history: a plan, and its tags put in an order that is drawn, with puts among them that the plan does not wait
 // for.
+#![tactic(auto)]
+
 mod puts;
 mod tags;
 
@@ -47,7 +49,7 @@ pub fn hostile(mut turn: Turn, depth: u64, card: &mut [u8]) -> Left
 }
 
 // What a plan left: its answer with the count, the plan, the tags of its messages, the number drawn last and the sum of the range buffer.
-#[derive(Drop)]
+#[derive(Clone, Copy)]
 struct Begun {
     answer: Answer,
     count: u64,

@@ -7,7 +7,7 @@ use steps::draw;
 use tree::{Anchor, Answer, BlockIndex, Node, path};
 
 // Anchor and plan as last returned, and the number drawn last.
-#[derive(Drop)]
+#[derive(Clone, Copy)]
 pub struct Going {
     pub anchor: Anchor,
     pub plan: Plan,
@@ -15,7 +15,7 @@ pub struct Going {
 }
 
 // A place that is tried, and the number drawn last.
-#[derive(Drop)]
+#[derive(Clone, Copy)]
 struct Tried {
     place: u64,
     drawn: u64,

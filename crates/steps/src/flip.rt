@@ -5,7 +5,7 @@ use crate::turn::{Left, Turn};
 use crate::{call, draw};
 
 // A bit of a card, and the number drawn last.
-#[derive(Drop)]
+#[derive(Clone, Copy)]
 struct Spot {
     at: usize,
     bit: u64,

@@ -8,7 +8,7 @@ pub const BUFFER: u8 = 0x5a;
 pub const RANGES: u8 = 0x3c;
 
 // The anchor, the block that the step names, and the number drawn last.
-#[derive(Drop)]
+#[derive(Clone, Copy)]
 pub struct Turn {
     pub anchor: Anchor,
     pub block: BlockIndex,
@@ -16,7 +16,7 @@ pub struct Turn {
 }
 
 // The answer with its count, the anchor, the number drawn last, and the sums of the buffer and of the range buffer.
-#[derive(Drop)]
+#[derive(Clone, Copy)]
 pub struct Left {
     pub answer: Answer,
     pub count: u64,

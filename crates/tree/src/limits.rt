@@ -8,7 +8,7 @@ ghost use Rattle.tree.specs.Calls.{first_limits, write_limits, verdict};
 use crate::{Anchor, Answer, BlockIndex, Nonce, Refusal};
 
 // What a test answers.
-#[derive(Drop)]
+#[derive(Clone, Copy)]
 pub enum Test {
     Passed,
     Failed,

@@ -1,5 +1,7 @@
 // The published vectors of AES-128 and AES-CMAC, each printed with what the proved code makes of it; the file stdout has what the
 // standards print.
+#![tactic(auto)]
+
 use libc::STDOUT_FILENO;
 
 mod hex;

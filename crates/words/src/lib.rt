@@ -1,18 +1,20 @@
 // Bytes in machine words, the first byte lowest. Division and remainder say what the compiler turns into shifts and moves.
+#![tactic(auto)]
+
 ghost use Rattle.std.specs.Prelude.{◌≡◌, [], ◌∷◌, ◌++◌, reverse, ◌+◌, ◌≤◌, ◌<◌, length};
 ghost use Rattle.std.proofs.lemmas.List.Edits.{sets};
 ghost use Rattle.words.specs.Bytes.{at, part, same, xor_block};
 ghost use Rattle.words.specs.Words.{bytes, state_of, block_of};
 
 // A block of 16 bytes: its first eight and its last eight, each in a word.
-#[derive(Drop)]
+#[derive(Clone, Copy)]
 pub struct Block {
     pub head: u64,
     pub tail: u64,
 }
 
 // The same in four words; a state of the cipher has a column in each.
-#[derive(Drop)]
+#[derive(Clone, Copy)]
 pub struct Columns {
     pub c0: u32,
     pub c1: u32,

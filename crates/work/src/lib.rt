@@ -1,5 +1,7 @@
 // What each call does once its limits are passed. The context is made once; every check comes before the first byte that changes. The count
 // is that of the context and of every tag made.
+#![tactic(auto)]
+
 ghost use Rattle.std.specs.Prelude.{◌≡◌, [], map, ◌+◌, ◌^◌, ◌<◌, length};
 ghost use Rattle.std.proofs.Math.Option.{none};
 ghost use Rattle.cmac.specs.Cmac.{cmac_of};
