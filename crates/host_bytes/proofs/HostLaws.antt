@@ -14,7 +14,7 @@ use Rattle.tree.specs.Answer.{is_whole}
 use Rattle.tree.specs.Calls.{Call, lent_to, renews, Outcome, Gives, outcome, format}
 use Rattle.tree.specs.declared.Anchor.{Anchor}
 use Rattle.tree.specs.declared.Answer.{Answer}
-use Rattle.tree.specs.declared.Answer.TheVariants.{Whole}
+use Rattle.tree.specs.declared.Answer.TheVariants.{Whole, Wrong, Refused}
 use Rattle.host_bytes.specs.Host.{anchor_bytes, refused_length, number, anchor_of, code_of, Host, hosted, measured, host_call, host_format, Hosts}
 
 -- Numbers
@@ -53,6 +53,11 @@ measured-out anchor card lent h d =
     rw (ne_eqb (length anchor) anchor_bytes d) (record { coded = refl; anchored = refl; left = refl; filled = refl })
 
 -- Answers
+
+pub is-whole-other : (x : Answer) → (x ≡ Whole → ⊥) → is_whole x ≡ false
+is-whole-other Whole d = absurd (d refl)
+is-whole-other (Wrong u) d = refl
+is-whole-other (Refused r) d = refl
 
 module _ (anchor : List ℕ) (o : Outcome) (x : Answer) (b : Anchor) (card lent : List ℕ) (g : Gives o x b card lent) where
   pub hosted-kept : (moves : Bool) → (moves && is_whole x) ≡ false → Hosts (hosted moves anchor o) (code_of x) anchor card lent

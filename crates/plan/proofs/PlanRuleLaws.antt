@@ -23,7 +23,7 @@ use Rattle.tree.proofs.LabelLaws.{Sized, labels-below, labels-sized, new-root, n
 use Rattle.tree.proofs.WriteLaws.{written-labels, written-message}
 use Rattle.tree.proofs.EnoughLaws.{found-same}
 use Rattle.tree.proofs.CallLaws.{accepted, outcome-answer, outcome-done}
-use Rattle.plan.specs.Places.{plan_nodes, full}
+use Rattle.plan.specs.Places.{plan_nodes}
 use Rattle.plan.specs.Split.{Given, given, Planned, no_plan, plan_done, plan_settled, planned, joined}
 use Rattle.plan.specs.Split.{put}
 use Rattle.plan.specs.Rule.{nodes_of, Laid, PlanRule}

@@ -11,7 +11,6 @@ use Rattle.tree.specs.declared.Answer.{Answer}
 use Rattle.tree.specs.declared.Answer.TheVariants.{Whole}
 use Rattle.tree.specs.declared.BlockIndex.{BlockIndex}
 use Rattle.tree.proofs.LimitLaws.{first-passed}
-use Rattle.tree.proofs.CallLaws.{accepted}
 use Rattle.plan.specs.Places.{fill, full}
 use Rattle.plan.specs.Split.{Put, put_done, put_settled, put_answer, put}
 use Rattle.plan.specs.Rule.{Waits, Taken, PutRule}

@@ -1,0 +1,10 @@
+-- After i turns the first i bytes of the piece are stored.
+use Rattle.std.proofs.Common.{◌≡◌, ◌-◌, ◌≤◌, length, take}
+use Rattle.std.proofs.lemmas.List.Edits.{sets}
+use Rattle.words.proofs.put.Given as goal
+
+abbrev pub invariant-loop-i : goal.invariant-loop-i
+invariant-loop-i l = (l.i ≤ length l.piece) × (l.string ≡ sets l.fn.string l.start (take l.i l.piece))
+
+abbrev pub decreases-loop-i : goal.decreases-loop-i
+decreases-loop-i l = length l.piece - l.i
