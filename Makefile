@@ -16,8 +16,7 @@ help:
 	@echo 'make clean     remove what was built'
 
 vectors:
-	rt check vectors
-	@cat target/log/vectors.stdout
+	cd crates/vectors && rt run
 
 # The proved code for Rust and C to link: rt proves what goes into an archive.
 archives:

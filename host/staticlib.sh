@@ -1,20 +1,19 @@
 #!/bin/sh
-# Proves a crate and what it needs, and writes its archive. The screen has a line for each crate, and a log all that the
-# prover says.
-#   staticlib.sh NAME
+# Proves a crate and what it needs, and writes its archive. The screen has a line at the begin and one at the end, and a log all that
+# the prover says.
+#   staticlib.sh NAME      pat: the calls for C, from the crate pat_c; else the crate NAME
 set -eu
 name=$1
-log=target/log/$name.staticlib
-mkdir -p target/log
-rm -f "$log.status"
+crate=$name
+[ "$name" != pat ] || crate=pat_c
+log=$PWD/target/log/$name.staticlib
+mkdir -p target/log target/staticlib
 began=$(date +%s)
-echo "proving $name and what it needs; all that the prover says is in $log"
-{ rt staticlib "$name" 2>&1 && echo 0 >"$log.status" || echo $? >"$log.status"; } | tee "$log" |
-    sed -nu 's/^rt: \([A-Za-z0-9_]*\) proved \((.*)\)$/proved \1 \2/p'
-status=$(cat "$log.status")
-if [ "$status" -ne 0 ]; then
+echo "proving $crate and what it needs; all that the prover says is in $log"
+if ! (cd "crates/$crate" && rt lib >"$log" 2>&1); then
     tail -n 30 "$log" >&2
-    echo "FAILED: rt staticlib $name; the whole of it is in $log" >&2
-    exit "$status"
+    echo "FAILED: rt lib in crates/$crate; the whole of it is in $log" >&2
+    exit 1
 fi
-echo "proved $name; target/staticlib/lib$name.a is written ($(($(date +%s) - began)) s)"
+cp "crates/$crate/out/lib$crate.a" "target/staticlib/lib$name.a"
+echo "proved $crate; target/staticlib/lib$name.a is written ($(($(date +%s) - began)) s)"

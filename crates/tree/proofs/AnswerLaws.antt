@@ -2,6 +2,7 @@
 use mathlib.Core.Path.{◌≡◌, refl, sym, ap, subst, ◌∙◌}
 use mathlib.Core.Bool.{false}
 use mathlib.Core.List.{List, [], ◌∷◌, ◌++◌}
+use mathlib.Core.Logic.{inl, inr}
 use mathlib.Core.Option.{Option, none, some}
 use Prim.Native.Nat.{ℕ, ◌<◌, ◌≤◌}
 use native.Mathlib.Omega.{arith}
@@ -27,6 +28,12 @@ pub not-whole : (x : Answer) → OneOf (1 ∷ 2 ∷ []) (tag_of T.the_type x) �
 not-whole Whole k = absurd (miss (1 ∷ 2 ∷ []) 0 tt k)
 not-whole (Wrong u) k = refl
 not-whole (Refused r) k = refl
+
+-- an answer that is not whole is one of the two others
+pub other_than_whole : (x : Answer) → (x ≡ Whole → ⊥) → OneOf (1 ∷ 2 ∷ []) (tag_of T.the_type x)
+other_than_whole Whole d = absurd (d refl)
+other_than_whole (Wrong u) d = inl refl
+other_than_whole (Refused r) d = inr refl
 
 -- what the first of two lists of limits refuses, both together refuse; where they are passed there is no refusal
 refuses-both : (ls ms : List Limit) (r : Option Refusal) → first_failing ls ≡ r → OneOf (1 ∷ 2 ∷ []) (tag_of T.the_type (verdict r none))
