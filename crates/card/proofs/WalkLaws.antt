@@ -1,5 +1,5 @@
 -- The first wrong node of a list and the messages checked until it is found, test by test and level by level.
-use Prim.Native.Nat.{ℕ, zero, suc, ◌+◌, ◌<◌, ◌≤◌}
+use Prim.Native.Nat.{ℕ, zero, suc, ◌+◌, ◌/◌, ◌^◌, ◌<◌, ◌≤◌}
 use mathlib.Core.Path.{◌≡◌, refl, sym, ap, ap₂, subst, ◌∙◌}
 use mathlib.Core.Bool.{Bool, true, false, cond}
 use mathlib.Core.List.{List, [], ◌∷◌, ◌++◌}
@@ -12,13 +12,14 @@ use lib.ListN.{length}
 use Rattle.cmac.specs.Traced.{count_under}
 use Rattle.cmac.proofs.TraceLaws.{count-bound}
 use Rattle.tree.specs.Layout.{IsNode, IsCard}
-use Rattle.tree.specs.Nodes.{up_to}
+use Rattle.tree.specs.Nodes.{up_to, path_node, sibling}
 use Rattle.tree.specs.Labels.{message, labels}
 use Rattle.tree.specs.Card.{right, first_wrong, checked}
 use Rattle.tree.specs.Calls.{verdict, total}
 use Rattle.tree.specs.Tests.{passing}
 use Rattle.tree.proofs.ByteLaws.{length-be}
 use Rattle.tree.proofs.LayoutLaws.{size_low}
+use Rattle.tree.proofs.NodeLaws.{path-node, twin-node, sibling-half}
 use Rattle.tree.proofs.LabelLaws.{labels-root, labels-sized}
 use Rattle.tree.proofs.CountLaws.{total-append, checked-after, checked-before, length-message}
 use Rattle.tree.specs.declared.Answer.{Answer}
@@ -125,6 +126,16 @@ module _ (F : List ℕ → List ℕ) (each : List ℕ → ℕ) (n t : ℕ) (card
         go : (y ≤ k → Walked (up_to k f) (some u) c) → (y ≡ suc k) ⊎ (y < suc k) → Walked (up_to k f ++ f (suc k)) (some u) c
         go down (inl e) = subst (λ (z : ℕ). Walked (up_to z f) (some u) c) e p
         go down (inr l) = walked-out (f (suc k)) (down (omega arith))
+
+-- Nodes of the card
+
+-- the node of the next level
+pub on_path : (n i y u : ℕ) → i < 2 ^ n → y < n → u ≡ path_node n i (y + 1) → IsNode n u
+on_path n i y u inside h e = subst (λ (w : ℕ). IsNode n w) (sym e) (path-node n i inside (y + 1) (omega arith) (omega arith))
+
+-- a node's sibling
+pub beside : (n u v : ℕ) → v ≡ sibling u → IsNode n u → IsNode n v
+beside n u v e h = twin-node n u v (ap (λ (w : ℕ). w / 2) e ∙ sibling-half u) h
 
 -- Few calls
 
