@@ -3,7 +3,7 @@ use mathlib.Core.Path.{◌≡◌, refl, ap}
 use mathlib.Core.List.{List, [], ◌∷◌}
 use mathlib.Core.Option.{Option, none, some}
 use Prim.Native.Nat.{ℕ}
-use types.Run.{OneOf, hit, miss}
+use types.Run.{OneOf, miss}
 use denote.Enum.Declared.{tag_of}
 use lib.ListN.{length}
 use Rattle.cmac.specs.Cmac.{cmac_of}
@@ -16,17 +16,11 @@ use Rattle.tree.specs.Calls.{format_answer, format}
 use Rattle.tree.specs.declared.Anchor.{Anchor}
 use Rattle.tree.specs.declared.Refusal.{Refusal}
 use Rattle.tree.specs.declared.Answer.{Answer}
-use Rattle.tree.specs.declared.Answer.TheVariants.{Whole, Wrong, Refused}
+use Rattle.tree.specs.declared.Answer.TheVariants.{Whole, Refused}
 use Rattle.tree.specs.contracts.Answer as T
 use Rattle.tree.proofs.LimitLaws.{skip_first, Sound, first-passed}
 use Rattle.tree.proofs.CallLaws.{format-accept}
 use Rattle.tree.proofs.AnswerLaws.{refused-first, none_first}
-
--- an answer that is not whole is wrong or refused
-pub other_tag : (x : Answer) → (x ≡ Whole → ⊥) → OneOf (1 ∷ 2 ∷ []) (tag_of T.the_type x)
-other_tag Whole h = absurd (h refl)
-other_tag (Wrong u) h = hit (1 ∷ 2 ∷ []) 1 tt
-other_tag (Refused r) h = hit (1 ∷ 2 ∷ []) 2 tt
 
 -- what the contract says of a call that answers x and leaves the rest
 abbrev Stays : Anchor → List ℕ → Call → Answer → Type 0

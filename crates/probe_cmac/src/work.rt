@@ -11,7 +11,7 @@ pub fn subkeys(key: &[u8], out: &mut [u8])
     let table = cmac::table();
     let context = cmac::context_of(&table, probe::key_of(key));
     let subkeys = context.subkeys;
-    bytes::copy(&subkeys, out);
+    out.copy_from_slice(&subkeys);
 }
 
 pub fn tag(key: &[u8], message: &[u8], out: &mut [u8])
@@ -21,7 +21,7 @@ pub fn tag(key: &[u8], message: &[u8], out: &mut [u8])
     let table = cmac::table();
     let context = cmac::context_of(&table, probe::key_of(key));
     let x = cmac::tag(&table, &context.schedule, &context.subkeys, message);
-    bytes::copy(&x, out);
+    out.copy_from_slice(&x);
 }
 
 pub fn tag_chain(key: &[u8], message: &mut [u8], count: u64)

@@ -5,7 +5,7 @@ use mathlib.Core.Option.{Option, none, some}
 use Prim.Native.Nat.{ℕ, ◌+◌, ◌^◌, ◌≤◌}
 use native.Mathlib.Nat.{add-zero, add_assoc}
 use native.Mathlib.Omega.{arith}
-use types.Run.{OneOf, hit, miss}
+use types.Run.{OneOf, miss}
 use denote.Enum.Declared.{tag_of}
 use Rattle.cmac.specs.Cmac.{cmac_of}
 use Rattle.cmac.specs.Context.{ContextOf, tag_under}
@@ -23,18 +23,12 @@ use Rattle.tree.specs.Calls.{Call, read, write, check, wipe, lent_to, limits, ch
 use Rattle.tree.specs.Calls.{checked_by, settled, outcome}
 use Rattle.tree.specs.declared.Anchor.{Anchor}
 use Rattle.tree.specs.declared.Answer.{Answer}
-use Rattle.tree.specs.declared.Answer.TheVariants.{Whole, Wrong, Refused}
+use Rattle.tree.specs.declared.Answer.TheVariants.{Whole}
 use Rattle.tree.specs.contracts.Answer as T
 use Rattle.tree.proofs.LayoutLaws.{few-leaves}
 use Rattle.tree.proofs.LimitLaws.{Passes, passes-sound}
 use Rattle.tree.proofs.CountLaws.{total-append, checked-most}
 use Rattle.tree.proofs.CostLaws.{checks_cost, tags_cost, blank-cost, checks-cost, tags-cost}
-
--- an answer that is not whole is wrong or refused
-pub other_tag : (x : Answer) → (x ≡ Whole → ⊥) → OneOf (1 ∷ 2 ∷ []) (tag_of T.the_type x)
-other_tag Whole h = absurd (h refl)
-other_tag (Wrong u) h = hit (1 ∷ 2 ∷ []) 1 tt
-other_tag (Refused r) h = hit (1 ∷ 2 ∷ []) 2 tt
 
 -- Few calls of the cipher: the count has room
 

@@ -2,13 +2,14 @@
 use Rattle.std.proofs.Common.{sym, ◌∙◌}
 use Rattle.tree.specs.Calls.{read}
 use Rattle.tree.proofs.LimitLaws.{no-limits, skip, stop}
-use Rattle.calls.proofs.OutcomeLaws.{other_tag, refuses, reports-first, first-sound, own-decide}
+use Rattle.tree.proofs.AnswerLaws.{other_than_whole}
+use Rattle.calls.proofs.OutcomeLaws.{refuses, reports-first, first-sound, own-decide}
 use Rattle.calls.proofs.read.Goals as goal
 
 pub returns-in_default : goal.returns-in_default
 returns-in_default c =
     reports-first c.args.anchor c.args.card.now (read c.args.index.0 c.args.buffer.now) _ c.first-first.ensures
-    (other_tag _ c.in_default.not-Whole)
+    (other_than_whole _ c.in_default.not-Whole)
 
 pub block_number-requires : goal.block_number-requires
 block_number-requires c = (first-sound c.args.anchor c.args.card.now c.first-first.ensures c.in-Whole.is).shallow

@@ -2,12 +2,13 @@
 use Rattle.std.proofs.Common.{sym, ◌∙◌}
 use Rattle.tree.specs.Calls.{wipe}
 use Rattle.tree.proofs.LimitLaws.{no-limits, skip, stop}
-use Rattle.calls.proofs.OutcomeLaws.{other_tag, refuses, reports-first, own-decide}
+use Rattle.tree.proofs.AnswerLaws.{other_than_whole}
+use Rattle.calls.proofs.OutcomeLaws.{refuses, reports-first, own-decide}
 use Rattle.calls.proofs.wipe.Goals as goal
 
 pub returns-in_default : goal.returns-in_default
 returns-in_default c =
-    reports-first c.args.anchor c.args.card.now wipe _ c.first-tested.ensures (other_tag _ c.in_default.not-Whole)
+    reports-first c.args.anchor c.args.card.now wipe _ c.first-tested.ensures (other_than_whole _ c.in_default.not-Whole)
 
 pub returns-in_default-nonces_spent : goal.returns-in_default-nonces_spent
 returns-in_default-nonces_spent c =

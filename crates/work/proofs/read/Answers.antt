@@ -4,7 +4,8 @@ use Rattle.cmac.proofs.TraceLaws.{subkeys-count}
 use Rattle.tree.specs.Nodes.{path}
 use Rattle.tree.specs.Calls.{read, checks}
 use Rattle.tree.proofs.LimitLaws.{passed, sound-card}
-use Rattle.work.proofs.OutcomeLaws.{other_tag, few-calls, found_of, count_of_lem, reports-wrong, reports-read}
+use Rattle.tree.proofs.AnswerLaws.{other_than_whole}
+use Rattle.work.proofs.OutcomeLaws.{few-calls, found_of, count_of_lem, reports-wrong, reports-read}
 use Rattle.work.proofs.read.Goals as goal
 
 pub path-found-requires-clause-card : goal.path-found-requires-clause-card
@@ -37,7 +38,7 @@ returns-in_default c =
     let us = path a.depth c.args.index.0 in
     let made = c.context_of-context.ensures in
     reports-wrong a card (read c.args.index.0 c.args.buffer.now) _ _ c.requires
-    (found_of a.key _ made a.depth a.root.0 card us c.path-found.ensures.answer_value) (other_tag _ c.in_default.not-Whole)
+    (found_of a.key _ made a.depth a.root.0 card us c.path-found.ensures.answer_value) (other_than_whole _ c.in_default.not-Whole)
     (count_of_lem a.key _ made a.depth a.root.0 card us c.path-found.ensures.count_value)
 
 pub copy_block-requires-clause-card : goal.copy_block-requires-clause-card

@@ -5,7 +5,8 @@ use Rattle.cmac.proofs.TraceLaws.{subkeys-count, counts-of-context}
 use Rattle.tree.specs.Nodes.{pairs_but_leaf}
 use Rattle.tree.specs.Calls.{write, checks}
 use Rattle.tree.proofs.LimitLaws.{passed, sound-card}
-use Rattle.work.proofs.OutcomeLaws.{other_tag, few-calls, found_of, count_of_lem, reports-wrong, reports-write}
+use Rattle.tree.proofs.AnswerLaws.{other_than_whole}
+use Rattle.work.proofs.OutcomeLaws.{few-calls, found_of, count_of_lem, reports-wrong, reports-write}
 use Rattle.work.proofs.write.Goals as goal
 
 pub pairs-found-requires-clause-card : goal.pairs-found-requires-clause-card
@@ -38,7 +39,7 @@ returns-in_default c =
     let us = pairs_but_leaf a.depth c.args.index.0 in
     let made = c.context_of-context.ensures in
     reports-wrong a card (write c.args.index.0 c.args.block.now c.args.ranges.now) _ _ c.requires
-    (found_of a.key _ made a.depth a.root.0 card us c.pairs-found.ensures.answer_value) (other_tag _ c.in_default.not-Whole)
+    (found_of a.key _ made a.depth a.root.0 card us c.pairs-found.ensures.answer_value) (other_than_whole _ c.in_default.not-Whole)
     (count_of_lem a.key _ made a.depth a.root.0 card us c.pairs-found.ensures.count_value)
 
 pub block-tagged-requires-clause-card : goal.block-tagged-requires-clause-card
