@@ -2,7 +2,6 @@
 use Rattle.std.proofs.Common.{◌≡◌, refl, ap, ◌∙◌, ℕ, ◌+◌, ◌-◌, ◌*◌, ◌^◌, [], ◌∷◌, map, arith, rules}
 use Rattle.cmac.specs.Context.{tag_under}
 use Rattle.cmac.specs.Traced.{count_under}
-use Rattle.tree.specs.Layout.{IsNode}
 use Rattle.tree.specs.Nodes.{up_to, all_nodes}
 use Rattle.tree.specs.Labels.{message, blank_labels}
 use Rattle.tree.specs.Card.{put_each, stamped, blanked}
@@ -26,8 +25,8 @@ loop-y-preserved c =
     let a = c.args in
     let few = few-put _ _ a.depth a.nonce.0 _ _ _ _ _ refl c.put_entry-count.ensures.value in (
       search rules,
-      c.put_entry-count.ensures.card_after
-          ∙ blank-more _ a.depth a.nonce.0 c.loop-y.y a.card.now c.loop-y.card _ (omega arith) c.be8-parent.ensures c.loop-y.invariant.1,
+      rw c.put_entry-count.ensures.card_after
+          (blank-more _ a.depth a.nonce.0 c.loop-y.y a.card.now c.loop-y.card _ (omega arith) c.be8-parent.ensures c.loop-y.invariant.1),
       one_more _ (blank_labels a.depth a.nonce.0) c.loop-y.y _ _ c.loop-y.invariant.2
           (c.put_entry-count.ensures.value
           ∙ ap (count_under a.schedule.now a.subkeys.now) (blank-message a.depth a.nonce.0 c.loop-y.y _ (omega arith) c.be8-parent.ensures)),

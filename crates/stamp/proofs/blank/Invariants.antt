@@ -1,5 +1,5 @@
 -- After y turns the first y nodes are stamped with the labels of a blank card, and their messages counted.
-use Rattle.std.proofs.Common.{◌≡◌, ℕ, ◌+◌, ◌-◌, ◌*◌, ◌≤◌, [], ◌∷◌, map}
+use Rattle.std.proofs.Common.{◌≡◌, ◌+◌, ◌-◌, ◌*◌, ◌≤◌, [], ◌∷◌, map}
 use Rattle.cmac.specs.Context.{tag_under}
 use Rattle.cmac.specs.Traced.{count_under}
 use Rattle.tree.specs.Nodes.{up_to}

@@ -4,7 +4,6 @@ use Rattle.words.specs.Words.{bytes}
 use Rattle.cmac.specs.Context.{tag_under}
 use Rattle.cmac.specs.Traced.{count_under}
 use Rattle.cmac.proofs.Laws.{length-tag-under}
-use Rattle.tree.specs.Layout.{IsNode}
 use Rattle.tree.specs.Nodes.{up_to, pair, pairs}
 use Rattle.tree.specs.Labels.{message, labels, new_labels}
 use Rattle.tree.specs.Card.{put_each, stamped, written}

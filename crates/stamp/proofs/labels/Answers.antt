@@ -1,7 +1,7 @@
 -- One label more with each turn.
 use Rattle.std.proofs.Common.{◌≡◌, refl, sym, ap, ap₂, ◌∙◌, ℕ, ◌+◌, ◌-◌, List, [], ◌∷◌, arith, rules}
 use Rattle.std.proofs.lemmas.List.Edits.{sets}
-use Rattle.tree.specs.Layout.{IsNode, offset}
+use Rattle.tree.specs.Layout.{offset}
 use Rattle.tree.specs.Nodes.{up_to, path_node, sibling, path}
 use Rattle.tree.specs.Labels.{labels, new_labels}
 use Rattle.tree.specs.Card.{put_each, laid}
