@@ -148,10 +148,10 @@ pub fn block<'a>(
     requires index_bound { index.0 < 2 ^ depth }
     requires block_len { length block.now ≡ 64 }
     requires depth_bound { last.0 + depth < 2 ^ 64 }
-    ensures by_index { (t : ℕ) → card.new
+    ensures card_after { (t : ℕ) → card.new
         ≡ written (tag_under schedule.now subkeys.now) depth t last.0
         card.old index.0 block.now }
-    ensures by_index_2 { (t : ℕ) → result ≡ total (count_under schedule.now subkeys.now)
+    ensures value { (t : ℕ) → result ≡ total (count_under schedule.now subkeys.now)
         (map (message (written_labels depth t last.0 card.old index.0 block.now))
         (pairs depth index.0)) }
 {

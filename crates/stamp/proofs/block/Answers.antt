@@ -80,12 +80,12 @@ returns c =
     let e : a.last.0 + a.depth - a.depth ≡ a.last.0 = omega arith in
     let k : c.loop-level.level ≡ a.depth = omega arith in
     record {
-      by_index =
+      card_after =
           λ t.
           (c.loop-level.invariant.1 t).0
           ∙ ap₂ (λ (r y : ℕ). stamped F a.depth (new_labels a.depth r a.index.0 a.block.now (labels a.depth t a.card.now))
           (up_to y (pair a.depth a.index.0)) a.card.now) e k;
-      by_index_2 =
+      value =
           λ t.
           (c.loop-level.invariant.1 t).1
           ∙ ap₂ (λ (r y : ℕ). total each (map (message (new_labels a.depth r a.index.0 a.block.now (labels a.depth t a.card.now)))

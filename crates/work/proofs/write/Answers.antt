@@ -68,7 +68,7 @@ overflow_add-count c =
     omega (
       arith,
       count_of_lem a.key _ made a.depth a.root.0 card (pairs_but_leaf a.depth c.args.index.0) c.pairs-found.ensures.count_value,
-      rw (counts-of-context a.key _ made) at (c.block-tagged.ensures.by_index_2 a.root.0),
+      rw (counts-of-context a.key _ made) at (c.block-tagged.ensures.value a.root.0),
       subkeys-count a.key,
       few-calls a.key a card call (passed a card call c.requires),
     )
@@ -100,7 +100,7 @@ returns c =
     reports-write a card c.args.index.0 c.args.block.now c.args.ranges.now _ _ _ _ c.requires
     (sym c.in-Whole.is ∙ found_of a.key _ made a.depth a.root.0 card us c.pairs-found.ensures.answer_value)
     (ap₂ ◌+◌ (count_of_lem a.key _ made a.depth a.root.0 card us c.pairs-found.ensures.count_value)
-    (rw (counts-of-context a.key _ made) at (c.block-tagged.ensures.by_index_2 a.root.0)))
+    (rw (counts-of-context a.key _ made) at (c.block-tagged.ensures.value a.root.0)))
     c.moved-written.ensures
-    (rw (tags-of-context a.key _ made) at (c.block-tagged.ensures.by_index a.root.0))
+    (rw (tags-of-context a.key _ made) at (c.block-tagged.ensures.card_after a.root.0))
     c.fill.ensures
