@@ -1,8 +1,8 @@
-// The calls for C, as a static library: format, read, write, check, wipe, a write's plan and the put of a tag, and the write on an anchor
-// in its place. A slice passes as a pointer and a length. The anchor is 32 bytes: key, depth and root nonce, the numbers in eight bytes
-// each, big-endian; the write in place has it as a struct. A plan is 24 bytes: block number, new root nonce and filled places, in the same
-// way. A plan's messages have 656 bytes at every depth, a tag 16. The answer is the refusal's number plus 256 times the node, 0 when
-// accepted. It leaves out how often the cipher was called.
+// The calls for C, which the static library pat_c exports: format, read, write, check, wipe, a write's plan and the put of a tag, and the
+// write on an anchor in its place. A slice passes as a pointer and a length. The anchor is 32 bytes: key, depth and root nonce, the numbers
+// in eight bytes each, big-endian; the write in place has it as a struct. A plan is 24 bytes: block number, new root nonce and filled
+// places, in the same way. A plan's messages have 656 bytes at every depth, a tag 16. The answer is the refusal's number plus 256 times the
+// node, 0 when accepted. It leaves out how often the cipher was called.
 #![tactic(auto)]
 
 mod in_place;

@@ -20,7 +20,7 @@ pub extern "C" fn probe_sbox(out: &mut [u8]) -> u64
         return 1;
     }
     let s = tables::sbox::table();
-    bytes::copy(&s, out);
+    out.copy_from_slice(&s);
     0
 }
 

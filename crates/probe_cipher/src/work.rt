@@ -10,14 +10,14 @@ pub fn expand(key: &[u8], out: &mut [u8])
 {
     let sbox = tables::sbox::table();
     let schedule = cipher::key::expand(&sbox, probe::key_of(key));
-    bytes::copy(&schedule, out);
+    out.copy_from_slice(&schedule);
 }
 
 pub fn encrypt(key: &[u8], block: &[u8], out: &mut [u8])
     requires { (length key.now ≡ 16) × (length block.now ≡ 16) × (length out.old ≡ 16) }
     ensures { out.new ≡ encrypt_of key.now block.now }
 {
-    bytes::copy(block, out);
+    out.copy_from_slice(block);
     encrypt_chain(key, out, 1);
 }
 
