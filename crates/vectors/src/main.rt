@@ -2,7 +2,7 @@
 // standards print.
 #![tactic(auto)]
 
-use libc::STDOUT_FILENO;
+use std::io;
 
 mod hex;
 
@@ -35,62 +35,65 @@ const MESSAGE: [u8; 64] = [
     0xf6, 0x9f, 0x24, 0x45, 0xdf, 0x4f, 0x9b, 0x17, 0xad, 0x2b, 0x41, 0x7b, 0xe6, 0x6c, 0x37, 0x10,
 ];
 
-fn main() {
+fn main(rt: HostRuntime) -> io::Result<()> {
     let m = MESSAGE;
     let zero = [0u8; 16];
-    encrypted(b"FIPS 197 B            ", KEY, &INPUT_B);
-    encrypted(b"FIPS 197 C.1          ", KEY_C, &INPUT_C);
-    encrypted(b"SP 800-38A F.1.1 #1   ", KEY, &m[..16]);
-    encrypted(b"SP 800-38A F.1.1 #2   ", KEY, &m[16..32]);
-    encrypted(b"SP 800-38A F.1.1 #3   ", KEY, &m[32..48]);
-    encrypted(b"SP 800-38A F.1.1 #4   ", KEY, &m[48..]);
-    encrypted(b"RFC 4493 AES-128(0)   ", KEY, &zero);
-    subkeys();
-    tagged(b"RFC 4493 example 1    ", &m[..0]);
-    tagged(b"RFC 4493 example 2    ", &m[..16]);
-    tagged(b"RFC 4493 example 3    ", &m[..40]);
-    tagged(b"RFC 4493 example 4    ", &m);
+    encrypted(&rt, "FIPS 197 B            ", KEY, &INPUT_B)?;
+    encrypted(&rt, "FIPS 197 C.1          ", KEY_C, &INPUT_C)?;
+    encrypted(&rt, "SP 800-38A F.1.1 #1   ", KEY, &m[..16])?;
+    encrypted(&rt, "SP 800-38A F.1.1 #2   ", KEY, &m[16..32])?;
+    encrypted(&rt, "SP 800-38A F.1.1 #3   ", KEY, &m[32..48])?;
+    encrypted(&rt, "SP 800-38A F.1.1 #4   ", KEY, &m[48..])?;
+    encrypted(&rt, "RFC 4493 AES-128(0)   ", KEY, &zero)?;
+    subkeys(&rt)?;
+    tagged(&rt, "RFC 4493 example 1    ", &m[..0])?;
+    tagged(&rt, "RFC 4493 example 2    ", &m[..16])?;
+    tagged(&rt, "RFC 4493 example 3    ", &m[..40])?;
+    tagged(&rt, "RFC 4493 example 4    ", &m)
 }
 
 // Prints a block under a key.
-fn encrypted(label: &[u8], key: [u8; 16], input: &[u8])
+fn encrypted(rt: &impl Print, label: &str, key: [u8; 16], input: &[u8]) -> io::Result<()>
     requires { 16 ≤ length input.now }
 {
     let sbox = tables::sbox::table();
     let schedule = cipher::key::expand(&sbox, key);
     let table = tables::round_table::table();
     let output = cipher::encrypt(&table, &schedule, words::block_at(input, 0));
-    line(label, words::bytes_of(output));
+    line(rt, label, words::bytes_of(output))
 }
 
 // Prints both subkeys.
-fn subkeys() {
+fn subkeys(rt: &impl Print) -> io::Result<()> {
     let table = cmac::table();
     let context = cmac::context_of(&table, KEY);
     line(
-        b"RFC 4493 K1           ",
+        rt,
+        "RFC 4493 K1           ",
         words::bytes_of(words::block_at(&context.subkeys, 0)),
-    );
+    )?;
     line(
-        b"RFC 4493 K2           ",
+        rt,
+        "RFC 4493 K2           ",
         words::bytes_of(words::block_at(&context.subkeys, 16)),
-    );
+    )
 }
 
 // Prints the tag of a message.
-fn tagged(label: &[u8], message: &[u8]) {
+fn tagged(rt: &impl Print, label: &str, message: &[u8]) -> io::Result<()> {
     let table = cmac::table();
     let context = cmac::context_of(&table, KEY);
     line(
+        rt,
         label,
         cmac::tag(&table, &context.schedule, &context.subkeys, message),
-    );
+    )
 }
 
 // Prints a label and 16 bytes in hexadecimal.
-fn line(label: &[u8], bytes: [u8; 16]) {
-    io::write_all(STDOUT_FILENO, label);
+fn line(rt: &impl Print, label: &str, bytes: [u8; 16]) -> io::Result<()> {
+    print!(rt; "{label}")?;
     let digits = hex::digits(&bytes);
-    io::write_all(STDOUT_FILENO, &digits);
-    io::write_all(STDOUT_FILENO, b"\n");
+    rt.write_all(&digits)?;
+    println!(rt)
 }
