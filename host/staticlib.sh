@@ -10,7 +10,7 @@ log=$PWD/target/log/$name.staticlib
 mkdir -p target/log target/staticlib
 began=$(date +%s)
 echo "proving $crate and what it needs; all that the prover says is in $log"
-if ! (cd "crates/$crate" && rt lib >"$log" 2>&1); then
+if ! (cd "crates/$crate" && rt lib --cpu x86-64 >"$log" 2>&1); then
     tail -n 30 "$log" >&2
     echo "FAILED: rt lib in crates/$crate; the whole of it is in $log" >&2
     exit 1

@@ -74,7 +74,7 @@ pub put-ran : (κs : _) (x : _) (r : _) (e : _) → put-code.Learnt κs x r e �
     } ∷ [])
 put-ran κs x r e learnt long = (long, learnt, tt)
 
--- The write in place is walked by hand, and so has no such statement made for its callers: here is its `ensures`, as the check reads it.
+-- The write in place has the anchor as a struct: here is its `ensures`, as the check reads it.
 module _ {M : Type 1} {𝓤 : Ura M} (𝓛 : Logic 𝓤) (mem : Memory → SProp 𝓤) (run : Routine → Fun 𝓤) where
   pub in-place-ran : (κs : _) (x : _) (g : _) (r : _) (e : _)
       → (in_place.clauses 𝓛 mem run κs x).ensures g r e
