@@ -32,6 +32,6 @@ bench: archives
 	BEFORE='$(BEFORE)' $(CARGO) run --release --quiet -p bench -- --plot docs/calls.svg
 
 clean:
-	rm -rf target
+	rm -rf target crates/*/out
 
 include host/host.mk

@@ -8,6 +8,7 @@ crate=$name
 [ "$name" != pat ] || crate=pat_c
 log=$PWD/target/log/$name.staticlib
 mkdir -p target/log target/staticlib
+rm -f "crates/$crate/out/lib$crate.a"
 began=$(date +%s)
 echo "proving $crate and what it needs; all that the prover says is in $log"
 if ! (cd "crates/$crate" && rt lib --cpu x86-64 >"$log" 2>&1); then

@@ -4,7 +4,7 @@
 use std::path::{Path, PathBuf};
 
 /// The crates between the cipher and C.
-const PRODUCT: [&str; 12] = [
+const PRODUCT: [&str; 13] = [
     "cmac",
     "tree",
     "card",
@@ -17,6 +17,7 @@ const PRODUCT: [&str; 12] = [
     "host_bytes",
     "host_split",
     "pat",
+    "pat_c",
 ];
 
 /// The sources below a directory.
@@ -100,4 +101,73 @@ fn each_call_makes_one_context() {
     }
     let pairs = files_with("walk::pairs(");
     assert_eq!(pairs, ["work/lib.rt", "split/within.rt"]);
+}
+
+/// A function for C: its head with its clauses, and its body.
+#[derive(Debug, PartialEq)]
+struct Function {
+    name: String,
+    head: String,
+    body: String,
+}
+
+/// The functions for C of a file of the product, in order.
+fn functions_for_c(file: &str) -> Vec<Function> {
+    let of_file = |(named, line): (String, String)| (named == file).then_some(line);
+    let code: Vec<String> = lines().into_iter().filter_map(of_file).collect();
+    let begins = code
+        .iter()
+        .enumerate()
+        .filter(|(_, line)| line.starts_with("pub extern \"C\" fn "));
+    let function = |(at, line): (usize, &String)| {
+        let upto = |from: usize, end: &str| {
+            let found = code[from..].iter().position(|line| line == end);
+            from + found.unwrap_or_else(|| panic!("no {end} behind {line}"))
+        };
+        let open = upto(at, "{");
+        let close = upto(open, "}");
+        let name = line["pub extern \"C\" fn ".len()..].split('(').next();
+        Function {
+            name: name.expect("a name").to_string(),
+            head: code[at..open].join(" "),
+            body: code[open + 1..close].join(" "),
+        }
+    };
+    begins.map(function).collect()
+}
+
+/// The names of the parameters of a head.
+fn parameters(head: &str) -> Vec<&str> {
+    let (_, behind) = head.split_once('(').expect("parameters");
+    let (inside, _) = behind.split_once(')').expect("their end");
+    let named = inside.split(',').map(str::trim);
+    let named = named.filter(|parameter| !parameter.is_empty());
+    named
+        .map(|parameter| parameter.split(':').next().expect("a name"))
+        .collect()
+}
+
+/// What C calls has the signature and the clauses of the function of pat that has its name, of which demand 3 is proved, and only passes
+/// on to it.
+#[test]
+fn exports_pass_on_to_what_is_proved() {
+    let (proved, exports) = (
+        functions_for_c("pat/lib.rt"),
+        functions_for_c("pat_c/lib.rt"),
+    );
+    assert_eq!(exports.len(), 8);
+    let heads = |functions: &[Function]| -> Vec<String> {
+        functions.iter().map(|it| it.head.clone()).collect()
+    };
+    assert_eq!(heads(&exports), heads(&proved));
+    for export in &exports {
+        assert!(export.head.contains(" ensures { "), "{}", export.name);
+        let call = format!(
+            "pat::{}({})",
+            export.name,
+            parameters(&export.head).join(", ")
+        );
+        assert_eq!(export.body, call);
+        assert_eq!(files_with(&call), ["pat_c/lib.rt"]);
+    }
 }

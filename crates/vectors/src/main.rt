@@ -38,22 +38,22 @@ const MESSAGE: [u8; 64] = [
 fn main(rt: HostRuntime) -> io::Result<()> {
     let m = MESSAGE;
     let zero = [0u8; 16];
-    encrypted(&rt, "FIPS 197 B            ", KEY, &INPUT_B)?;
-    encrypted(&rt, "FIPS 197 C.1          ", KEY_C, &INPUT_C)?;
-    encrypted(&rt, "SP 800-38A F.1.1 #1   ", KEY, &m[..16])?;
-    encrypted(&rt, "SP 800-38A F.1.1 #2   ", KEY, &m[16..32])?;
-    encrypted(&rt, "SP 800-38A F.1.1 #3   ", KEY, &m[32..48])?;
-    encrypted(&rt, "SP 800-38A F.1.1 #4   ", KEY, &m[48..])?;
-    encrypted(&rt, "RFC 4493 AES-128(0)   ", KEY, &zero)?;
+    encrypted(&rt, b"FIPS 197 B            ", KEY, &INPUT_B)?;
+    encrypted(&rt, b"FIPS 197 C.1          ", KEY_C, &INPUT_C)?;
+    encrypted(&rt, b"SP 800-38A F.1.1 #1   ", KEY, &m[..16])?;
+    encrypted(&rt, b"SP 800-38A F.1.1 #2   ", KEY, &m[16..32])?;
+    encrypted(&rt, b"SP 800-38A F.1.1 #3   ", KEY, &m[32..48])?;
+    encrypted(&rt, b"SP 800-38A F.1.1 #4   ", KEY, &m[48..])?;
+    encrypted(&rt, b"RFC 4493 AES-128(0)   ", KEY, &zero)?;
     subkeys(&rt)?;
-    tagged(&rt, "RFC 4493 example 1    ", &m[..0])?;
-    tagged(&rt, "RFC 4493 example 2    ", &m[..16])?;
-    tagged(&rt, "RFC 4493 example 3    ", &m[..40])?;
-    tagged(&rt, "RFC 4493 example 4    ", &m)
+    tagged(&rt, b"RFC 4493 example 1    ", &m[..0])?;
+    tagged(&rt, b"RFC 4493 example 2    ", &m[..16])?;
+    tagged(&rt, b"RFC 4493 example 3    ", &m[..40])?;
+    tagged(&rt, b"RFC 4493 example 4    ", &m)
 }
 
 // Prints a block under a key.
-fn encrypted(rt: &impl Print, label: &str, key: [u8; 16], input: &[u8]) -> io::Result<()>
+fn encrypted(rt: &impl Print, label: &[u8], key: [u8; 16], input: &[u8]) -> io::Result<()>
     requires { 16 ≤ length input.now }
 {
     let sbox = tables::sbox::table();
@@ -69,18 +69,18 @@ fn subkeys(rt: &impl Print) -> io::Result<()> {
     let context = cmac::context_of(&table, KEY);
     line(
         rt,
-        "RFC 4493 K1           ",
+        b"RFC 4493 K1           ",
         words::bytes_of(words::block_at(&context.subkeys, 0)),
     )?;
     line(
         rt,
-        "RFC 4493 K2           ",
+        b"RFC 4493 K2           ",
         words::bytes_of(words::block_at(&context.subkeys, 16)),
     )
 }
 
 // Prints the tag of a message.
-fn tagged(rt: &impl Print, label: &str, message: &[u8]) -> io::Result<()> {
+fn tagged(rt: &impl Print, label: &[u8], message: &[u8]) -> io::Result<()> {
     let table = cmac::table();
     let context = cmac::context_of(&table, KEY);
     line(
@@ -91,8 +91,8 @@ fn tagged(rt: &impl Print, label: &str, message: &[u8]) -> io::Result<()> {
 }
 
 // Prints a label and 16 bytes in hexadecimal.
-fn line(rt: &impl Print, label: &str, bytes: [u8; 16]) -> io::Result<()> {
-    print!(rt; "{label}")?;
+fn line(rt: &impl Print, label: &[u8], bytes: [u8; 16]) -> io::Result<()> {
+    rt.write_all(label)?;
     let digits = hex::digits(&bytes);
     rt.write_all(&digits)?;
     println!(rt)
