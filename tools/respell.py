@@ -5,7 +5,7 @@ usage: python3 tools/respell.py [FOLDER]     after port.py, once; FOLDER is the 
 
 A name in camel case that begins with a small letter becomes snake case, each part between dashes by itself. Functions of src/, exported C
 names, strings, inputs and outputs are in snake case already and stay. Where the new name is one that stands for something else in the same
-files, NAMES or IN_FILES has another.
+files, NAMES or IN_PROOFS has another.
 """
 import os
 import re
@@ -16,12 +16,12 @@ TOKEN = re.compile(r"[A-Za-z][A-Za-z0-9_'₀-₉-]*")
 KEPT = {"xNN", "const_Zero", "const_Rb", "getD", "uint_Tells", "uint_Makes", "mut_Tells", "shr_slice_Tells", "mut_slice_Tells", "walk_Meets"}
 # afterPuts: a field of OneWrite is called after_puts.
 NAMES = {"afterPuts": "after_all_puts", "numberOr0": "number_or_0"}
-# Lemmas that would have the name of the definition that they are about.
-IN_FILES = [
-    ("crates/host_replay/proofs/", "left_by", "left_by_lem"),
-    ("crates/cmac/proofs/", "count_under", "count_under_lem"),
-    ("crates/work/proofs/", "count_of", "count_of_lem"),
-    ("crates/split/proofs/", "count_of", "count_of_lem"),
+# Lemmas, by crate, that would have the name of the definition that they are about.
+IN_PROOFS = [
+    ("host_replay", "left_by", "left_by_lem"),
+    ("cmac", "count_under", "count_under_lem"),
+    ("work", "count_of", "count_of_lem"),
+    ("split", "count_of", "count_of_lem"),
 ]
 
 
@@ -50,8 +50,8 @@ def text(path, old):
 
 
 def lemmas(path, old):
-    for folder, word, new in IN_FILES:
-        if path.startswith(folder):
+    for crate, word, new in IN_PROOFS:
+        if path.startswith(f"crates/{crate}/proofs/"):
             old = re.sub(r"(?<![\w.'-])" + word + r"(?![\w'-])", new, old)
     return old
 
