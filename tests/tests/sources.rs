@@ -60,22 +60,20 @@ fn files_with(words: &str) -> Vec<String> {
 /// One place calls the cipher, and the line behind it counts that call.
 #[test]
 fn the_cipher_has_one_caller() {
-    assert_eq!(files_with("cipher::encrypt"), ["cmac/lib.rt"]);
+    assert_eq!(files_with(".encrypt("), ["cmac/lib.rt"]);
     let lines = lines();
-    let at = lines
-        .iter()
-        .position(|(_, line)| line.contains("cipher::encrypt"));
+    let at = lines.iter().position(|(_, line)| line.contains(".encrypt("));
     let behind = &lines[at.expect("the call") + 1].1;
     assert_eq!(behind, "count += 1;");
 }
 
-/// A tag is made in three places: for the subkeys, as 16 bytes for other archives, and of a node.
+/// A tag is made in two places: for the subkeys, and of a node.
 #[test]
-fn tags_are_made_in_three_places() {
-    let callers = files_with("tag_block(");
-    assert_eq!(callers, ["cmac/lib.rt", "cmac/subkey.rt", "card/tag.rt"]);
-    assert_eq!(files_with("cmac::tag("), [] as [&str; 0]);
-    assert_eq!(files_with("tag::of("), ["stamp/lib.rt"]);
+fn tags_are_made_in_two_places() {
+    let callers = files_with(".tag(");
+    assert_eq!(callers, ["cmac/lib.rt", "card/tag.rt"]);
+    let named = files_with("tag::of(");
+    assert_eq!(named, ["stamp/lib.rt"]);
 }
 
 /// A context is made once in each of read, write, check, the making of an empty card and a plan, and each of these is handed to once.
@@ -83,13 +81,14 @@ fn tags_are_made_in_three_places() {
 fn each_call_makes_one_context() {
     let mut makers = vec!["work/lib.rt"; 4];
     makers.push("split/within.rt");
-    assert_eq!(files_with("cmac::context_of("), makers);
+    assert_eq!(files_with("Context::new("), makers);
     for work in ["blank", "read", "write", "check", "wipe"] {
         let call = format!("work::{work}(");
         assert_eq!(files_with(&call), ["calls/lib.rt"], "{call}");
     }
     assert_eq!(files_with("within::plan("), ["split/lib.rt"]);
-    assert_eq!(files_with("split::plan_in("), ["host_split/lib.rt"]);
+    // pat's is host_split::plan.
+    assert_eq!(files_with("split::plan("), ["host_split/lib.rt", "pat/lib.rt"]);
     assert_eq!(files_with("host_split::plan("), ["pat/lib.rt"]);
     for part in [
         "walk::path(",

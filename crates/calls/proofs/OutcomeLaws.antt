@@ -1,77 +1,44 @@
 -- How the code comes to an outcome limit by limit: refused by the first that fails, it makes no call of the cipher.
-use mathlib.Core.Path.{◌≡◌, refl, ap}
+use mathlib.Core.Path.{◌≡◌, refl}
 use mathlib.Core.List.{List, [], ◌∷◌}
-use mathlib.Core.Option.{Option, none, some}
 use Prim.Native.Nat.{ℕ}
-use types.Run.{OneOf, miss}
-use denote.Enum.Declared.{tag_of}
 use lib.ListN.{length}
+use Rattle.std.specs.Prelude.{Ok, Err}
 use Rattle.cmac.specs.Cmac.{cmac_of}
 use Rattle.cmac.specs.Traced.{subkeys_count, cmac_count}
-use Rattle.tree.specs.Layout.{IsCard}
 use Rattle.tree.specs.Card.{blanked}
-use Rattle.tree.specs.Limits.{depth_limit, card_limit, first_failing}
-use Rattle.tree.specs.Calls.{Call, Gives, Reports, lent_to, first_limits, own_limits, limits, verdict, rooted, answer_of, outcome}
-use Rattle.tree.specs.Calls.{format_answer, format}
+use Rattle.tree.specs.Limits.{depth_limit, card_limit}
+use Rattle.tree.specs.Tests.{tested}
+use Rattle.tree.specs.Calls.{Call, Gives, Reports, lent_to, limits, answer_of, outcome, format_answer, format}
 use Rattle.tree.specs.declared.Anchor.{Anchor}
 use Rattle.tree.specs.declared.Refusal.{Refusal}
-use Rattle.tree.specs.declared.Answer.{Answer}
-use Rattle.tree.specs.declared.Answer.TheVariants.{Whole, Refused}
-use Rattle.tree.specs.contracts.Answer as T
-use Rattle.tree.proofs.LimitLaws.{skip_first, Sound, first-passed}
-use Rattle.tree.proofs.CallLaws.{format-accept}
-use Rattle.tree.proofs.AnswerLaws.{refused-first, none_first}
+use Rattle.tree.specs.Answer.{Whole, Refused}
+use Rattle.tree.proofs.LimitLaws.{none-failing, this_fails}
 
--- what the contract says of a call that answers x and leaves the rest
-abbrev Stays : Anchor → List ℕ → Call → Answer → Type 0
-Stays a card c x =
-    Reports (subkeys_count a.key) (cmac_count a.key) (outcome (cmac_of a.key) a card c) x 0 a card (lent_to c)
-
-module _ (a : Anchor) (card : List ℕ) (c : Call) where
-  pub refuses : (r : Refusal) → first_failing (limits a card c) ≡ some r → Stays a card c (Refused r)
-  unfolding outcome answer_of
-  refuses r e =
-      rw e (record { gives = record { answered = refl; anchored = refl; left = refl; filled = refl }; counted = refl })
-
-  -- the limits refuse: the call does
-  by-limits : (r : Option Refusal) → first_failing (limits a card c) ≡ r → OneOf (1 ∷ 2 ∷ []) (tag_of T.the_type (verdict r none))
-      → Stays a card c (verdict r none)
-  by-limits none e k = absurd (miss (1 ∷ 2 ∷ []) 0 tt k)
-  by-limits (some r) e k = refuses r e
-
-  pub reports-limited : (x : Answer) → x ≡ verdict (first_failing (limits a card c)) none → OneOf (1 ∷ 2 ∷ []) (tag_of T.the_type x)
-      → Stays a card c x
-  reports-limited x e k = rw e (by-limits (first_failing (limits a card c)) refl (rw e at k))
-
-  -- The first limits refuse: the call does. They are passed: its own decide.
-
-  pub reports-first : (x : Answer) → x ≡ verdict (first_failing (first_limits a (length card))) none
-      → OneOf (1 ∷ 2 ∷ []) (tag_of T.the_type x) → Stays a card c x
-  unfolding limits
-  reports-first x e k = reports-limited x (refused-first (first_limits a (length card)) (own_limits a c) x e k) k
-
-module _ (a : Anchor) (card : List ℕ) {x : Answer} (e : x ≡ verdict (first_failing (first_limits a (length card))) none) (w : x ≡ Whole) where
-  passed : first_failing (first_limits a (length card)) ≡ none
-  passed = none_first (first_limits a (length card)) e w
-
-  pub first-sound : Sound a.depth a.root.0 card
-  first-sound = first-passed a card passed
-
-  pub own-decide : (c : Call) → first_failing (limits a card c) ≡ first_failing (own_limits a c)
-  unfolding limits
-  own-decide c = skip_first (first_limits a (length card)) (own_limits a c) passed
+-- the limits refuse: the call does, and leaves everything
+pub reports-limited : (a : Anchor) (card : List ℕ) (c : Call) {r : Refusal} → tested (limits a card c) ≡ Err r
+    → Reports (subkeys_count a.key) (cmac_count a.key) (outcome (cmac_of a.key) a card c) (Refused r) 0 a card (lent_to c)
+unfolding outcome answer_of
+reports-limited a card c e =
+    rw (this_fails (limits a card c) e)
+    (record { gives = record { answered = refl; anchored = refl; left = refl; filled = refl }; counted = refl })
 
 -- Format
 
-module _ (F : List ℕ → List ℕ) (a : Anchor) (zero : a.root.0 ≡ 0) (card : List ℕ) where
-  pub format-refuses : (r : Refusal) → first_failing (depth_limit a.depth ∷ card_limit a.depth (length card) ∷ []) ≡ some r
-      → Gives (format F a.key a.depth card) (Refused r) a card []
-  unfolding format format_answer
-  format-refuses r e = rw e (record { answered = refl; anchored = ap (rooted a) zero; left = refl; filled = refl })
+module _ (F : List ℕ → List ℕ) (key : List ℕ) (n : ℕ) (card : List ℕ) where
+  abbrev made : Anchor
+  made = record { key = key; depth = n; root = record { 0 = 0 } }
 
-  pub gives-format : (card' : List ℕ) → IsCard a.depth card → card' ≡ blanked F a.depth 0 card
-      → Gives (format F a.key a.depth card) Whole a card' []
-  unfolding format
-  gives-format card' h f =
-      rw (format-accept a.depth card h.deep h.shallow h.full)
-      (record { answered = refl; anchored = ap (rooted a) zero; left = f; filled = refl })
+  pub format-refuses : {r : Refusal} → tested (depth_limit n ∷ card_limit n (length card) ∷ []) ≡ Err r
+      → Gives (format F key n card) (Refused r) made card []
+  unfolding format format_answer
+  format-refuses e =
+      rw (this_fails (depth_limit n ∷ card_limit n (length card) ∷ []) e)
+      (record { answered = refl; anchored = refl; left = refl; filled = refl })
+
+  pub gives-format : {x : Unit} (card' : List ℕ) → tested (depth_limit n ∷ card_limit n (length card) ∷ []) ≡ Ok x
+      → card' ≡ blanked F n 0 card → Gives (format F key n card) Whole made card' []
+  unfolding format format_answer
+  gives-format card' e f =
+      rw (none-failing (depth_limit n ∷ card_limit n (length card) ∷ []) e)
+      (record { answered = refl; anchored = refl; left = f; filled = refl })

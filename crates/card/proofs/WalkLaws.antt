@@ -1,150 +1,181 @@
--- The first wrong node of a list and the messages checked until it is found, test by test and level by level.
-use Prim.Native.Nat.{ℕ, zero, suc, ◌+◌, ◌/◌, ◌^◌, ◌<◌, ◌≤◌}
+-- A walk along a list of nodes, one after another: what is left of the list answers for all of it.
+use Prim.Native.Nat.{ℕ, zero, suc, ◌+◌, ◌*◌, ◌^◌, ◌<◌, ◌≤◌}
 use mathlib.Core.Path.{◌≡◌, refl, sym, ap, ap₂, subst, ◌∙◌}
-use mathlib.Core.Bool.{Bool, true, false, cond}
-use mathlib.Core.List.{List, [], ◌∷◌, ◌++◌}
-use mathlib.Core.Logic.{◌⊎◌, inl, inr}
-use mathlib.Core.Option.{Option, none, some}
-use native.Mathlib.Nat.{add-zero, eq-or-lt_of_le}
+use mathlib.Core.Bool.{true, false}
+use mathlib.Core.List.{List, [], ◌∷◌, ◌++◌, map, Memᴰ}
+use mathlib.Core.Option.{Option as Maybe, none, some}
+use native.Mathlib.Nat.{add-zero, zero-add, add_assoc, add_comm, suc-mul}
 use native.Mathlib.Numerals.{add-one}
 use native.Mathlib.Omega.{arith}
-use lib.ListN.{length}
-use Rattle.cmac.specs.Traced.{count_under}
+use lib.ListN.{length, length-append}
+use Rattle.std.proofs.Common.{Option, Some, None, Ok, Err, append-nil, map-id}
+use Rattle.std.specs.Iterator.{AlwaysYields}
+use Rattle.std.specs.List.{range_with_len, flat_map}
+use Rattle.std.proofs.lemmas.Iterator.{YieldsList}
+use Rattle.std.proofs.lemmas.List.Concat.{flat_map-append, flat_map_single}
+use Rattle.std.proofs.lemmas.List.FromFn.{map-range_with_len_more}
+use Rattle.cmac.specs.Context.{tag_by, count_by}
+use Rattle.cmac.specs.declared.Context.{Context}
 use Rattle.cmac.proofs.TraceLaws.{count-bound}
-use Rattle.tree.specs.Layout.{IsNode, IsCard}
-use Rattle.tree.specs.Nodes.{up_to, path_node, sibling}
+use Rattle.tree.specs.declared.Node.{Node}
+use Rattle.tree.specs.declared.Error.TheVariants.{WrongTag}
+use Rattle.tree.specs.Layout.{IsNode}
+use Rattle.tree.specs.Nodes.{up_to}
 use Rattle.tree.specs.Labels.{message, labels}
 use Rattle.tree.specs.Card.{right, first_wrong, checked}
 use Rattle.tree.specs.Calls.{verdict, total}
-use Rattle.tree.specs.Tests.{passing}
 use Rattle.tree.proofs.ByteLaws.{length-be}
 use Rattle.tree.proofs.LayoutLaws.{size_low}
-use Rattle.tree.proofs.NodeLaws.{path-node, twin-node, sibling-half}
 use Rattle.tree.proofs.LabelLaws.{labels-root, labels-sized}
-use Rattle.tree.proofs.CountLaws.{total-append, checked-after, checked-before, length-message}
-use Rattle.tree.specs.declared.Answer.{Answer}
-use Rattle.tree.specs.declared.limits.Test.{Test}
-use Rattle.tree.specs.declared.limits.Test.TheVariants.{Passed, Failed}
-
-pub was-passed : (b : Bool) {r : Test} → r ≡ passing b → r ≡ Passed → b ≡ true
-was-passed true e p = refl
-was-passed false e p = cc
-
-pub was-failed : (b : Bool) {r : Test} → r ≡ passing b → r ≡ Failed → b ≡ false
-was-failed true e p = cc
-was-failed false e p = refl
-
--- what the first search found, else what the second did
-abbrev or_else : Option ℕ → Option ℕ → Option ℕ
-or_else none q = q
-or_else (some u) q = some u
-
-module _ (F : List ℕ → List ℕ) (each : List ℕ → ℕ) (n t : ℕ) (card : List ℕ) where
-  -- along the list us the first wrong node is w, and the messages checked until then take k calls of the cipher
-  pub record Walked (us : List ℕ) (w : Option ℕ) (k : ℕ) : Type 0 where
-    pub found : first_wrong F n t card us ≡ w
-    pub took : k ≡ total each (checked F n t card us)
-
-  none-walked : Walked [] none 0
-  unfolding first_wrong checked total
-  none-walked = record { found = refl; took = refl }
-
-  -- what was walked is what the walk answers
-  pub answers : {us : List ℕ} {w : Option ℕ} {k : ℕ} {x : Answer} {j : ℕ} → Walked us w k → x ≡ verdict none w → j ≡ k
-      → (x ≡ verdict none (first_wrong F n t card us)) × (j ≡ total each (checked F n t card us))
-  answers p e q = (e ∙ ap (verdict none) (sym p.found), q ∙ p.took)
-
-  -- One list after another
-
-  wrong-append : (us vs : List ℕ) → first_wrong F n t card (us ++ vs) ≡ or_else (first_wrong F n t card us) (first_wrong F n t card vs)
-  unfolding first_wrong
-  wrong-append [] vs = refl
-  wrong-append (u ∷ us) vs = go (wrong-append us vs) (right F n t card u)
-    where
-      go : first_wrong F n t card (us ++ vs) ≡ or_else (first_wrong F n t card us) (first_wrong F n t card vs) → (b : Bool)
-          → cond b (first_wrong F n t card (us ++ vs)) (some u)
-          ≡ or_else (cond b (first_wrong F n t card us) (some u)) (first_wrong F n t card vs)
-      go e true = e
-      go e false = refl
-
-  pub walked_on : {us vs : List ℕ} {w : Option ℕ} {a b k : ℕ} → Walked us none a → Walked vs w b → k ≡ a + b → Walked (us ++ vs) w k
-  walked_on {us} {vs} p q e =
-      record {
-        found = wrong-append us vs ∙ rw p.found q.found;
-        took =
-            e ∙ ap₂ ◌+◌ p.took q.took ∙ sym (total-append each (checked F n t card us) (checked F n t card vs))
-            ∙ ap (total each) (sym (checked-after F n t card us vs p.found));
-      }
-
-  pub walked-out : {us : List ℕ} {u k : ℕ} (vs : List ℕ) → Walked us (some u) k → Walked (us ++ vs) (some u) k
-  walked-out {us} {u} vs p =
-      record {
-        found = wrong-append us vs ∙ rw p.found;
-        took = p.took ∙ ap (total each) (sym (checked-before F n t card us vs u p.found));
-      }
-
-  -- A node u alone, by its test
-
-  alone : (m : List ℕ) (b : Bool) → each m ≡ total each (m ∷ cond b [] [])
-  unfolding total
-  alone m true = sym (add-zero (each m))
-  alone m false = sym (add-zero (each m))
-
-  module _ {u v : ℕ} (e : u ≡ v) {r : Test} (tested : r ≡ passing (right F n t card u)) {k : ℕ}
-      (counted : k ≡ each (message (labels n t card) u)) where
-    pub right-walked : r ≡ Passed → Walked (v ∷ []) none k
-    unfolding first_wrong checked
-    right-walked p =
-        subst (λ (w : ℕ). Walked (w ∷ []) none k) e
-        (record { found = rw (was-passed (right F n t card u) tested p); took = counted ∙ alone _ (right F n t card u) })
-
-    pub wrong-walked : r ≡ Failed → Walked (v ∷ []) (some u) k
-    unfolding first_wrong checked
-    wrong-walked p =
-        subst (λ (w : ℕ). Walked (w ∷ []) (some u) k) e
-        (record { found = rw (was-failed (right F n t card u) tested p); took = counted ∙ alone _ (right F n t card u) })
-
-  -- Level by level
-
-  module _ (f : ℕ → List ℕ) where
-    pub walk_start : Walked (up_to 0 f) none 0
-    unfolding up_to
-    walk_start = none-walked
-
-    pub walk_more : (y : ℕ) {w : Option ℕ} {a b k : ℕ} → Walked (up_to y f) none a → Walked (f (y + 1)) w b → k ≡ a + b
-        → Walked (up_to (y + 1) f) w k
-    unfolding up_to
-    walk_more y p q e = rw add-one (walked_on p (rw add-one at q) e)
-
-    -- a wrong node on level y is the first of all k levels
-    pub walk-out : (y k u c : ℕ) → y ≤ k → Walked (up_to y f) (some u) c → Walked (up_to k f) (some u) c
-    unfolding up_to
-    walk-out zero zero u c h p = p
-    walk-out (suc y) zero u c h p = absurd (omega arith)
-    walk-out y (suc k) u c h p = go (λ l. walk-out y k u c l p) (eq-or-lt_of_le h)
-      where
-        go : (y ≤ k → Walked (up_to k f) (some u) c) → (y ≡ suc k) ⊎ (y < suc k) → Walked (up_to k f ++ f (suc k)) (some u) c
-        go down (inl e) = subst (λ (z : ℕ). Walked (up_to z f) (some u) c) e p
-        go down (inr l) = walked-out (f (suc k)) (down (omega arith))
-
--- Nodes of the card
-
--- the node of the next level
-pub on_path : (n i y u : ℕ) → i < 2 ^ n → y < n → u ≡ path_node n i (y + 1) → IsNode n u
-on_path n i y u inside h e = subst (λ (w : ℕ). IsNode n w) (sym e) (path-node n i inside (y + 1) (omega arith) (omega arith))
-
--- a node's sibling
-pub beside : (n u v : ℕ) → v ≡ sibling u → IsNode n u → IsNode n v
-beside n u v e h = twin-node n u v (ap (λ (w : ℕ). w / 2) e ∙ sibling-half u) h
+use Rattle.tree.proofs.CountLaws.{length-message}
+use Rattle.card.specs.Walks.{Walks, GivesNodes}
+use Rattle.card.specs.declared.view.CardView.{CardView}
 
 -- Few calls
 
 -- a node's message has at most 73 bytes, and so takes at most five calls
-pub few-calls : (schedule subkeys m : List ℕ) (k : ℕ) → k ≡ count_under schedule subkeys m → length m ≤ 73 → k ≤ 5
-few-calls schedule subkeys m k e h = omega (arith, count-bound schedule subkeys m)
+pub few-calls : (c : Context) (m : List ℕ) (k : ℕ) → k ≡ count_by c m → length m ≤ 73 → k ≤ 5
+few-calls c m k e h = omega (arith, count-bound c.aes.schedule c.subkeys m)
 
-pub few-checked : (schedule subkeys : List ℕ) (n t : ℕ) (card : List ℕ) (u k : ℕ) → IsCard n card → IsNode n u
-    → k ≡ count_under schedule subkeys (message (labels n t card) u) → k ≤ 5
-few-checked schedule subkeys n t card u k d h e =
-    let l = length-message n (labels n t card) (labels-sized n t card d.full) (ap length (labels-root n t card) ∙ length-be 8 t) u h in
-    few-calls schedule subkeys _ k e (omega (arith, l, size_low n u))
+few-checked : (c : Context) (v : CardView) (u k : ℕ) → IsNode v.depth.levels u
+    → k ≡ count_by c (message (labels v.depth.levels v.root.0 v.bytes.now) u) → k ≤ 5
+few-checked c v u k h e =
+    let n = v.depth.levels in
+    let t = v.root.0 in
+    let L = labels n t v.bytes.now in
+    let l = length-message n L (labels-sized n t v.bytes.now v.full) (ap length (labels-root n t v.bytes.now) ∙ length-be 8 t) u h in
+    few-calls c _ k e (omega (arith, l, size_low n u))
+
+-- What is left of a list of nodes
+
+module _ (c : Context) (v : CardView) where
+  abbrev pub wrong : List ℕ → Maybe ℕ
+  wrong us = first_wrong (tag_by c) v.depth.levels v.root.0 v.bytes.now us
+
+  abbrev pub calls : List ℕ → ℕ
+  calls us = total (count_by c) (checked (tag_by c) v.depth.levels v.root.0 v.bytes.now us)
+
+  abbrev pub each_calls : ℕ → ℕ
+  each_calls u = count_by c (message (labels v.depth.levels v.root.0 v.bytes.now) u)
+
+  on-right : (u : ℕ) (us : List ℕ) → right (tag_by c) v.depth.levels v.root.0 v.bytes.now u ≡ true
+      → (wrong (u ∷ us) ≡ wrong us) × (calls (u ∷ us) ≡ each_calls u + calls us)
+  unfolding first_wrong checked total
+  on-right u us e = (rw e, rw e)
+
+  on-wrong : (u : ℕ) (us : List ℕ) → right (tag_by c) v.depth.levels v.root.0 v.bytes.now u ≡ false
+      → (wrong (u ∷ us) ≡ some u) × (calls (u ∷ us) ≡ each_calls u)
+  unfolding first_wrong checked total
+  on-wrong u us e = (rw e, rw e (add-zero (each_calls u)))
+
+  module _ {S : Type 0} (steps : S → Option Node → S → Type 0) (us : List ℕ) where
+    -- from s the rest of us is left, and the nodes before it are right and took k calls
+    pub record Along (s : S) (k : ℕ) : Type 0 where
+      pub rest : List ℕ
+      pub gives : GivesNodes steps v.depth.levels s rest
+      pub found : wrong us ≡ wrong rest
+      pub took : calls us ≡ k + calls rest
+      pub few : k + 5 * length rest < 5 * 2 ^ 32
+
+    pub along_all : {s : S} → GivesNodes steps v.depth.levels s us → Along s 0
+    along_all g = record { rest = us; gives = g; found = refl; took = sym (zero-add (calls us)); few = omega (arith, g.few) }
+
+    -- what the next step gives is the next node
+    record Next (s t : S) (x : Node) (k : ℕ) : Type 0 where
+      others : List ℕ
+      node : IsNode v.depth.levels x.0
+      gives : GivesNodes steps v.depth.levels t others
+      found : wrong us ≡ wrong (x.0 ∷ others)
+      took : calls us ≡ k + calls (x.0 ∷ others)
+      few : k + (5 + 5 * length others) < 5 * 2 ^ 32
+
+    next : {s t : S} {x : Node} {k : ℕ} → Along s k → steps s (Some x) t → Next s t x k
+    next {s} {t} {x} {k} a p = go a.rest a.gives a.found a.took a.few
+      where
+        go : (vs : List ℕ) → GivesNodes steps v.depth.levels s vs → wrong us ≡ wrong vs → calls us ≡ k + calls vs
+            → k + 5 * length vs < 5 * 2 ^ 32 → Next s t x k
+        go [] g f l h = absurd (g.yields x t p)
+        go (w ∷ vs) g f l h =
+            let y = g.yields.1 x t p in
+            record {
+              others = vs;
+              node = g.nodes x.0 (Memᴰ.head y.0);
+              gives = record { yields = y.1; nodes = λ z m. g.nodes z (Memᴰ.tail m); few = omega (arith, g.few) };
+              found = f ∙ ap (λ (z : ℕ). wrong (z ∷ vs)) (sym y.0);
+              took = l ∙ ap (λ (z : ℕ). k + calls (z ∷ vs)) (sym y.0);
+              few = omega arith;
+            }
+
+    pub along_node : {s t : S} {x : Node} {k : ℕ} → Along s k → steps s (Some x) t → IsNode v.depth.levels x.0
+    along_node a p = (next a p).node
+
+    module _ {s t : S} {x : Node} {k j : ℕ} (a : Along s k) (p : steps s (Some x) t) (e : j ≡ each_calls x.0) where
+      pub along-fits : k + j < 5 * 2 ^ 32
+      along-fits = let n = next a p in omega (arith, few-checked c v x.0 j n.node e, n.few)
+
+      pub along_right : right (tag_by c) v.depth.levels v.root.0 v.bytes.now x.0 ≡ true → Along t (k + j)
+      along_right r =
+          let n = next a p in
+          let o = on-right x.0 n.others r in
+          record {
+            rest = n.others;
+            gives = n.gives;
+            found = n.found ∙ o.0;
+            took = n.took ∙ ap (λ (z : ℕ). k + z) (o.1 ∙ ap (λ (z : ℕ). z + calls n.others) (sym e)) ∙ sym (add_assoc k j (calls n.others));
+            few = omega (arith, few-checked c v x.0 j n.node e, n.few);
+          }
+
+      pub along_wrong : right (tag_by c) v.depth.levels v.root.0 v.bytes.now x.0 ≡ false
+          → Walks c v us (record { value = Err (WrongTag x); count = k + j })
+      along_wrong r =
+          let n = next a p in
+          let o = on-wrong x.0 n.others r in
+          record {
+            value = ap (verdict none) (sym (n.found ∙ o.0));
+            count = sym (n.took ∙ ap (λ (z : ℕ). k + z) (o.1 ∙ sym e));
+          }
+
+    pub along_end : {s t : S} {k : ℕ} → Along s k → steps s None t → Walks c v us (record { value = Ok tt; count = k })
+    unfolding first_wrong checked total
+    along_end {s} {t} {k} a p = go a.rest a.gives a.found a.took
+      where
+        go : (vs : List ℕ) → GivesNodes steps v.depth.levels s vs → wrong us ≡ wrong vs → calls us ≡ k + calls vs
+            → Walks c v us (record { value = Ok tt; count = k })
+        go [] g f l = record { value = ap (verdict none) (sym f); count = sym (l ∙ add-zero k) }
+        go (w ∷ vs) g f l = absurd (g.yields.0 t p)
+
+-- Nodes by number, as an iterator gives them
+
+-- the numbers from a on
+pub up-to-flat : (a k : ℕ) (f g : ℕ → List ℕ) → ((y : ℕ) → f (a + y) ≡ g (suc y)) → flat_map f (range_with_len a k) ≡ up_to k g
+unfolding up_to
+up-to-flat a zero f g e = refl
+up-to-flat a (suc k) f g e =
+    let r : range_with_len a (suc k) ≡ range_with_len a k ++ ((a + k) ∷ []) =
+    ap (range_with_len a) (sym (add-one k)) ∙ sym (map-id (range_with_len a (k + 1))) ∙ map-range_with_len_more (λ y. y) a k (a + k) refl
+    ∙ ap (λ (l : List ℕ). l ++ ((a + k) ∷ [])) (map-id (range_with_len a k)) in
+    ap (flat_map f) r ∙ flat_map-append f (range_with_len a k) ((a + k) ∷ [])
+    ∙ ap₂ (λ (l m : List ℕ). l ++ m) (up-to-flat a k f g e) (append-nil (f (a + k)) ∙ e k)
+
+pub up-to-map : (a k : ℕ) (f g : ℕ → ℕ) → ((y : ℕ) → f (a + y) ≡ g (suc y)) → map f (range_with_len a k) ≡ up_to k (λ y. g y ∷ [])
+up-to-map a k f g e =
+    sym (flat_map_single f (range_with_len a k)) ∙ up-to-flat a k (λ y. f y ∷ []) (λ y. g y ∷ []) (λ y. ap (λ (z : ℕ). z ∷ []) (e y))
+
+pub from_one : {A : Type 0} (f : ℕ → A) (y : ℕ) → f (1 + y) ≡ f (suc y)
+from_one f y = ap f (add_comm 1 y ∙ add-one y)
+
+pub length-up-to : (k m : ℕ) (f : ℕ → List ℕ) → ((y : ℕ) → length (f y) ≤ m) → length (up_to k f) ≤ k * m
+unfolding up_to
+length-up-to zero m f h = omega arith
+length-up-to (suc k) m f h = omega (arith, length-up-to k m f h, length-append (up_to k f) (f (suc k)), h (suc k), suc-mul k m)
+
+numbers : {S : Type 0} (steps : S → Option Node → S → Type 0) (xs : List Node) (t : S) → AlwaysYields steps (λ u. u) t xs
+    → AlwaysYields steps (λ u. u.0) t (map (λ u. u.0) xs)
+numbers steps [] t y = y
+numbers steps (x ∷ xs) t y = (y.0, λ u w p. let z = y.1 u w p in (ap (λ (v : Node). v.0) z.0, numbers steps xs w z.1))
+
+module _ {S : Type 0} {steps : S → Option Node → S → Type 0} {s : S} where
+  -- what gives nodes gives their numbers
+  pub by_number : {xs : List Node} {us : List ℕ} → YieldsList steps (λ u. u) s xs → map (λ u. u.0) xs ≡ us
+      → YieldsList steps (λ u. u.0) s us
+  by_number {xs} y e = subst (λ (us : List ℕ). YieldsList steps (λ u. u.0) s us) e (record { runs = numbers steps xs s y.runs })

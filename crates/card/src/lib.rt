@@ -1,5 +1,8 @@
-// What is looked at on a card: tags of its nodes, and the nodes that a call checks.
+// A card that is looked at: tags of its nodes, and the nodes that a call checks.
 #![tactic(auto)]
 
 pub mod tag;
+pub mod view;
 pub mod walk;
+
+pub use view::{BlockView, CardView};

@@ -1,158 +1,73 @@
 // The nodes that each call checks, in its order: whole, or the first whose tag is wrong. The cipher's calls are counted up to it.
-ghost use Rattle.std.specs.Prelude.{◌≡◌, ◌^◌, ◌<◌};
-ghost use Rattle.std.proofs.Math.Option.{none};
-ghost use Rattle.cmac.specs.Context.{IsTable, tag_under};
-ghost use Rattle.cmac.specs.Traced.{count_under};
-ghost use Rattle.tree.specs.Layout.{IsCard};
-ghost use Rattle.tree.specs.Nodes.{path, pairs_but_leaf, all_nodes};
-ghost use Rattle.tree.specs.Card.{first_wrong, checked};
-ghost use Rattle.tree.specs.Calls.{verdict, total};
-ghost use Rattle.tree.specs.declared.Answer.TheVariants.{Wrong};
+ghost use Rattle.std.specs.Prelude.{◌≡◌, ◌≤◌, List, ℕ, map};
+ghost use Rattle.std.specs.Iterator.{IsFinite};
+ghost use Rattle.tree.specs.Nodes.{path, pair, pairs_but_leaf, all_nodes};
+ghost use Rattle.card.specs.Walks.{Walks, GivesNodes};
 
-use crate::tag;
-use tree::limits::Test;
-use tree::{Answer, BlockIndex, Node, Nonce, path};
+use crate::{BlockView, CardView};
+use cmac::Context;
+use cmac::counted::Counted;
+use std::iter::once;
+use tree::{Error, Node};
 
 // What the checks found, with the count of the cipher's calls for them.
-#[derive(Clone, Copy)]
-pub struct Found {
-    pub answer: Answer,
-    pub count: u64,
-}
+pub type Found = Counted<Result<(), Error>>;
 
 // A read's: the path from level 1 down to the leaf.
-pub fn path<'a>(
-    table: &[u8; 2048],
-    schedule: &'a [u8; 176],
-    subkeys: &'a [u8; 32],
-    depth: u64,
-    root: Nonce,
-    card: &[u8],
-    index: BlockIndex,
-) -> Found
-    requires table { IsTable table.now }
-    requires card { IsCard depth card.now }
-    requires index_bound { index.0 < 2 ^ depth }
-    ensures answer_value { result.answer ≡ verdict none
-        (first_wrong (tag_under schedule.now subkeys.now) depth root.0 card.now
-        (path depth index.0)) }
-    ensures count_value { result.count ≡ total (count_under schedule.now subkeys.now)
-        (checked (tag_under schedule.now subkeys.now) depth root.0 card.now
-        (path depth index.0)) }
+pub fn path(context: &Context, block: &BlockView) -> Found
+    ensures { Walks context.now block.now.card (path block.now.card.depth.levels block.now.index.0) result }
 {
-    let mut count: u64 = 0;
-    let mut level: u64 = 0;
-    while level < depth {
-        level += 1;
-        let own = path::node(depth, index, level);
-        let tested = tag::node(table, schedule, subkeys, depth, root, card, own);
-        count += tested.count;
-        let test = tested.test;
-        let Test::Passed = test else {
-            return wrong(own, count);
-        };
-    }
-    Found {
-        answer: Answer::Whole,
-        count: count,
-    }
+    let path = block.path();
+    let nodes = (1..path.depth.levels + 1).map(|level| path.node(level));
+    each(context, &block.card, nodes)
 }
 
 // A write's: each node of the path and then its sibling, and of the last level the sibling alone.
-pub fn pairs<'a>(
-    table: &[u8; 2048],
-    schedule: &'a [u8; 176],
-    subkeys: &'a [u8; 32],
-    depth: u64,
-    root: Nonce,
-    card: &[u8],
-    index: BlockIndex,
-) -> Found
-    requires table { IsTable table.now }
-    requires card { IsCard depth card.now }
-    requires index_bound { index.0 < 2 ^ depth }
-    ensures answer_value { result.answer ≡ verdict none
-        (first_wrong (tag_under schedule.now subkeys.now) depth root.0 card.now
-        (pairs_but_leaf depth index.0)) }
-    ensures count_value { result.count ≡ total (count_under schedule.now subkeys.now)
-        (checked (tag_under schedule.now subkeys.now) depth root.0 card.now
-        (pairs_but_leaf depth index.0)) }
+pub fn pairs(context: &Context, block: &BlockView) -> Found
+    ensures { Walks context.now block.now.card (pairs_but_leaf block.now.card.depth.levels block.now.index.0) result }
 {
-    let last = depth - 1;
-    let mut count: u64 = 0;
-    let mut level: u64 = 0;
-    while level < last {
-        level += 1;
-        let own = path::node(depth, index, level);
-        let tested = tag::node(table, schedule, subkeys, depth, root, card, own);
-        count += tested.count;
-        let test = tested.test;
-        let Test::Passed = test else {
-            return wrong(own, count);
-        };
-        let other = path::sibling(own);
-        let tested = tag::node(table, schedule, subkeys, depth, root, card, other);
-        count += tested.count;
-        let test = tested.test;
-        let Test::Passed = test else {
-            return wrong(other, count);
-        };
-    }
-    let other = path::sibling(path::node(depth, index, depth));
-    let tested = tag::node(table, schedule, subkeys, depth, root, card, other);
-    count += tested.count;
-    let test = tested.test;
-    let Test::Passed = test else {
-        return wrong(other, count);
-    };
-    Found {
-        answer: Answer::Whole,
-        count: count,
-    }
+    let path = block.path();
+    let levels = path.depth.levels;
+    let pairs = (1..levels).flat_map(
+        move |level|
+            requires { level ≤ path.depth.levels }
+            ensures { map (λ u. u.0) result ≡ pair path.depth.levels path.index.0 level }
+        {
+            let own = path.node(level);
+            [own, own.sibling()]
+        },
+    );
+    let last = path.node(levels).sibling();
+    each(context, &block.card, pairs.chain(once(last)))
 }
 
 // A check's: all, from 2 upwards.
-pub fn all<'a>(
-    table: &[u8; 2048],
-    schedule: &'a [u8; 176],
-    subkeys: &'a [u8; 32],
-    depth: u64,
-    root: Nonce,
-    card: &[u8],
-) -> Found
-    requires table { IsTable table.now }
-    requires card { IsCard depth card.now }
-    ensures answer_value { result.answer ≡ verdict none
-        (first_wrong (tag_under schedule.now subkeys.now) depth root.0 card.now (all_nodes depth)) }
-    ensures count_value { result.count ≡ total (count_under schedule.now subkeys.now)
-        (checked (tag_under schedule.now subkeys.now) depth root.0 card.now (all_nodes depth)) }
+pub fn all(context: &Context, card: &CardView) -> Found
+    ensures { Walks context.now card.now (all_nodes card.now.depth.levels) result }
 {
-    let nodes = 2 * tree::layout::leaves(depth) - 2;
-    let mut count: u64 = 0;
-    let mut y: u64 = 0;
-    while y < nodes {
-        y += 1;
-        let node = Node(y + 1);
-        let tested = tag::node(table, schedule, subkeys, depth, root, card, node);
-        count += tested.count;
-        let test = tested.test;
-        let Test::Passed = test else {
-            return wrong(node, count);
-        };
-    }
-    Found {
-        answer: Answer::Whole,
-        count: count,
-    }
+    each(context, card, (2..2 * card.depth.leaves()).map(Node))
 }
 
-// A wrong tag, with the count up to it.
-fn wrong(node: Node, count: u64) -> Found
-    ensures answer_value { result.answer ≡ Wrong node }
-    ensures count_value { result.count ≡ count }
+// Each of these nodes, until the tag of one is wrong.
+fn each<I: Iterator<Item = Node>>(context: &Context, card: &CardView, nodes: I) -> Found
+    requires can { I.can_next nodes }
+    requires ends { IsFinite (I.remaining nodes) }
+    requires nodes { (us : List ℕ) × GivesNodes I.next_gives card.now.depth.levels nodes us }
+    ensures { (us : List ℕ) → GivesNodes I.next_gives card.now.depth.levels nodes us → Walks context.now card.now us result }
 {
-    Found {
-        answer: Answer::Wrong(node),
-        count: count,
+    let mut count = 0u64;
+    for node in nodes {
+        let tested = card.is_right(context, node);
+        count += tested.count;
+        if !tested.value {
+            return Counted {
+                value: Err(Error::WrongTag(node)),
+                count,
+            };
+        }
+    }
+    Counted {
+        value: Ok(()),
+        count,
     }
 }

@@ -75,7 +75,7 @@ pub record Filled (key w : List ℕ) (k : Columns) (i : ℕ) : Type 0 where
 
 -- one round key more
 pub filled_more : (key w : List ℕ) (k n : Columns) (i : ℕ) → i < 10 → Filled key w k i
-    → state_of n ≡ next_round_key (round_constant (i + 1)) (state_of k) → Filled key (sets w (16 * (i + 1)) (state_of n)) n (i + 1)
+    → state_of n ≡ next_round_key (round_constant (i + 1)) (state_of k) → Filled key (sets w (16 * i + 16) (state_of n)) n (i + 1)
 filled_more key w k n i h f e =
     let o = 16 * (i + 1) in
     let m : 16 * (i + 1) ≡ 16 * i + 16 = omega arith in
@@ -89,10 +89,10 @@ filled_more key w k n i h f e =
     round-words key p k i (length-take-le (16 * i) w (omega arith)) before
     ∙ ap₂ ◌++◌ (sym before ∙ sym f.words ∙ ap (λ (x : ℕ). take x w) (sym m)) (sym e) in
     let j : length (take o w ++ state_of n) ≡ o + 16 = length-append (take o w) (state_of n) ∙ ap (λ (x : ℕ). x + 16) t in
-    record {
+    rw (← m) (record {
       whole = length-sets w o (state_of n) ∙ l;
       words = ap (take (o + 16)) s ∙ take_at (take o w ++ state_of n) (drop (o + 16) w) (o + 16) j ∙ sym after;
       last =
           ap (λ (x : List ℕ). part x o 16) (s ∙ append_assoc (take o w) (state_of n) (drop (o + 16) w))
           ∙ ap (take 16) (drop_at (take o w) (state_of n ++ drop (o + 16) w) o t);
-    }
+    })

@@ -1,5 +1,4 @@
-// AES-128 encryption, FIPS 197. The tables of the crate `tables` are made once and lent; `key::expand` makes the expanded key, and
-// `encrypt` runs the ten rounds over it.
+// AES-128 encryption, FIPS 197.
 #![tactic(auto)]
 
 pub mod key;
@@ -7,21 +6,38 @@ mod round;
 
 ghost use Rattle.std.specs.Prelude.{◌≡◌};
 ghost use Rattle.cipher.specs.Cipher.{cipher_of};
-ghost use Rattle.tables.specs.Tables.{IsRoundTable};
+ghost use Rattle.cipher.specs.KeyExpansion.{key_expansion};
 ghost use Rattle.words.specs.Words.{block_of};
 
-use words::Block;
+use tables::round_table::RoundTable;
+use words::{Block, Columns, Packed};
 
-// One block under an expanded key.
-pub fn encrypt(table: &[u8; 2048], schedule: &[u8; 176], input: Block) -> Block
-    requires { IsRoundTable table.now }
-    ensures { block_of result ≡ cipher_of schedule.now (block_of input) }
-{
-    let mut state = words::split(words::xored(input, words::block_at(schedule, 0)));
-    let mut i: usize = 0;
-    while i < 9 {
-        i += 1;
-        state = round::whole(table, words::columns_at(schedule, 16 * i), state);
+// The cipher with an expanded key.
+#[derive(Clone, Copy)]
+pub struct Aes128 {
+    pub table: RoundTable,
+    pub schedule: [u8; 176],
+}
+
+impl Aes128 {
+    // Under a key.
+    pub fn new(key: [u8; 16]) -> Aes128
+        ensures { result.schedule ≡ key_expansion key }
+    {
+        Aes128 {
+            table: RoundTable::new(),
+            schedule: key::expand(key),
+        }
     }
-    words::joined(round::last(table, words::columns_at(schedule, 160), state))
+
+    // One block, whatever the expanded key holds.
+    pub fn encrypt(&self, input: Block) -> Block
+        ensures { block_of result ≡ cipher_of self.now.schedule (block_of input) }
+    {
+        let mut state = Columns::from(input ^ Block::at(&self.schedule, 0));
+        for i in 1..10 {
+            state = round::whole(self.table, Columns::at(&self.schedule, 16 * i), state);
+        }
+        Block::from(round::last(self.table, Columns::at(&self.schedule, 160), state))
+    }
 }

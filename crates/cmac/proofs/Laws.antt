@@ -13,7 +13,7 @@ use Rattle.cipher.specs.KeyExpansion.{key_expansion}
 use Rattle.cipher.proofs.Rounds.{cipher-of-key, length-cipher, length-encrypt}
 use Rattle.cmac.specs.Cmac.{zeros, shifted, rb, double, subkey1, subkey2, blocks}
 use Rattle.cmac.specs.Cmac.{complete, last_block, chain, cmac_with, cmac_by, cmac_of}
-use Rattle.cmac.specs.Context.{subkeys_of, ContextOf, tag_under}
+use Rattle.cmac.specs.Context.{subkeys_of, ContextOf, tag_under, tag_by}
 use Rattle.cmac.specs.declared.Context.{Context}
 
 -- a tag has 16 bytes, whatever the key and the message hold
@@ -54,7 +54,7 @@ tag-of-context key m =
     ap (λ (e : List ℕ → List ℕ). cmac_with e (part (k1 ++ k2) 0 16) (part (k1 ++ k2) 16 16) m) (cipher-of-key key)
     ∙ ap₂ (λ (a b : List ℕ). cmac_with (encrypt_of key) a b m) first second
 
-pub tags-of-context : (key : List ℕ) (x : Context) → ContextOf key x → tag_under x.schedule x.subkeys ≡ cmac_of key
+pub tags-of-context : (key : List ℕ) (x : Context) → ContextOf key x → tag_by x ≡ cmac_of key
 tags-of-context key x h = ap₂ tag_under h.schedule h.subkeys ∙ fun_ext (tag-of-context key)
 
 pub length-subkeys : (key : List ℕ) → length (subkeys_of key) ≡ 32

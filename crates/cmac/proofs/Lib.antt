@@ -1,4 +1,3 @@
-pub mod Fill
 pub mod Count
 pub mod Padding
 pub mod Chain

@@ -8,7 +8,7 @@ use lib.ListN.{length, replicate, length-append}
 use Rattle.words.specs.Bytes.{part, xor_block}
 use Rattle.cipher.specs.Cipher.{cipher_of, encrypt_of}
 use Rattle.cmac.specs.Cmac.{zeros, subkey1, subkey2, blocks, message_block, last_block, chain, cmac_with}
-use Rattle.cmac.specs.Context.{ContextOf}
+use Rattle.cmac.specs.Context.{ContextOf, count_by}
 use Rattle.cmac.specs.Traced.{subkeys_traced, chain_traced, cmac_traced, subkeys_count, cmac_count, count_under}
 use Rattle.cmac.specs.declared.Context.{Context}
 use Rattle.cmac.proofs.Count.{some-blocks, blocks-bound}
@@ -90,8 +90,8 @@ count-of-zeros schedule =
     count_under_lem schedule (replicate 32 0) (replicate 16 0) ∙ sym (ap length (subkeys-trace (cipher_of schedule)))
 
 -- the counts of a context are those of its key
-pub counts-of-context : (key : List ℕ) (x : Context) → ContextOf key x → count_under x.schedule x.subkeys ≡ cmac_count key
-counts-of-context key x h = fun_ext (λ m. count_under_lem x.schedule x.subkeys m ∙ sym (cmac-count key m))
+pub counts-of-context : (key : List ℕ) (x : Context) → ContextOf key x → count_by x ≡ cmac_count key
+counts-of-context key x h = fun_ext (λ m. count_under_lem x.aes.schedule x.subkeys m ∙ sym (cmac-count key m))
 
 -- the tree's messages: 17 bytes take two calls, 73 take five
 pub count-17 : (key m : List ℕ) → length m ≡ 17 → cmac_count key m ≡ 2

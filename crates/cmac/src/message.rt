@@ -3,9 +3,8 @@ ghost use Rattle.std.specs.Prelude.{cond, [], ◌∷◌, ◌≡◌, ◌+◌, ◌
 ghost use Rattle.words.specs.Bytes.{part};
 ghost use Rattle.words.specs.Words.{bytes, block_of};
 ghost use Rattle.cmac.specs.Cmac.{blocks, message_block, padding, last_block};
-ghost use Rattle.cmac.specs.Padded.{padded_byte};
 
-use words::Block;
+use words::{Block, Packed};
 
 // How many blocks come before the last one.
 pub fn before_last(message: &[u8]) -> usize
@@ -21,7 +20,7 @@ pub fn input(message: &[u8], last: Block, count: usize, index: usize) -> Block
     ensures { block_of result ≡ cond (ltb index count) (message_block message.now index) (block_of last) }
 {
     if index < count {
-        return words::block_at(message, 16 * index);
+        return Block::at(message, 16 * index);
     }
     last
 }
@@ -34,56 +33,20 @@ pub fn last(subkeys: &[u8; 32], message: &[u8], count: usize) -> Block
 {
     let start = 16 * count;
     if start + 16 == message.len() {
-        return words::xored(words::block_at(message, start), words::block_at(subkeys, 0));
+        return Block::at(message, start) ^ Block::at(subkeys, 0);
     }
-    words::xored(padded_block(message, start), words::block_at(subkeys, 16))
+    padded_block(message, start) ^ Block::at(subkeys, 16)
 }
 
-// The short block of a message, padded.
+// The short block of a message, padded. Inlined, it makes the loop over the blocks slower.
+#[inline(never)]
 fn padded_block(message: &[u8], start: usize) -> Block
     requires { (start ≤ length message.now) × (length message.now < start + 16) }
     ensures { block_of result ≡ padding (part message.now start 16) }
 {
-    Block {
-        head: words::double_word(padded_word(message, start), padded_word(message, start + 4)),
-        tail: words::double_word(
-            padded_word(message, start + 8),
-            padded_word(message, start + 12),
-        ),
-    }
-}
-
-// Four bytes of a message, with its padding.
-fn padded_word(message: &[u8], start: usize) -> u32
-    requires { start < 9223372036854775824 }
-    ensures { bytes 4 result
-        ≡ padded_byte message.now start ∷ padded_byte message.now (start + 1)
-        ∷ padded_byte message.now (start + 2) ∷ padded_byte message.now (start + 3) ∷ [] }
-{
-    let n = message.len();
-    if n < start {
-        return 0;
-    }
-    if 4 <= n - start {
-        return words::word_at(message, start);
-    }
-    words::word_of(
-        padded_byte(message, start),
-        padded_byte(message, start + 1),
-        padded_byte(message, start + 2),
-        padded_byte(message, start + 3),
-    )
-}
-
-// A byte of a message, with its padding.
-fn padded_byte(message: &[u8], index: usize) -> u8
-    ensures { result ≡ padded_byte message.now index }
-{
-    if index < message.len() {
-        return message[index];
-    }
-    if index == message.len() {
-        return 128;
-    }
-    0
+    let rest = &message[start..];
+    let mut bytes = [0u8; 16];
+    bytes[..rest.len()].copy_from_slice(rest);
+    bytes[rest.len()] = 0x80;
+    Block::at(&bytes, 0)
 }

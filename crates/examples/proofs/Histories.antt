@@ -14,9 +14,9 @@ use Rattle.tree.specs.Ranges.{ranges_to, encode}
 use Rattle.tree.specs.Limits.{first_failing}
 use Rattle.tree.specs.Calls.{Call, read, write, check, wipe, limits, checks, format_answer, answer_of, outcome, format}
 use Rattle.tree.specs.declared.Anchor.{Anchor}
-use Rattle.tree.specs.declared.Answer.{Answer}
+use Rattle.tree.specs.Answer.{Answer}
 use Rattle.tree.specs.declared.Refusal.TheVariants.{CardLength, NotAwaited}
-use Rattle.tree.specs.declared.Answer.TheVariants.{Whole, Wrong, Refused}
+use Rattle.tree.specs.Answer.{Whole, Wrong, Refused}
 use Rattle.replay.specs.Array.{zeroed, block_at, moved}
 use Rattle.plan.specs.Places.{plan_nodes, member, every, place_in, awaits, fill, full}
 use Rattle.plan.specs.Split.{planned, put_answer, put}

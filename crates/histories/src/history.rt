@@ -1,102 +1,55 @@
 // The history of one depth: a format, and then steps that are drawn.
-ghost use Rattle.steps.specs.Card.{IsDepth, IsCard};
+ghost use Rattle.std.specs.Prelude.{◌≡◌, ◌≤◌};
+ghost use Rattle.tree.specs.Layout.{card_length};
 
-use crate::{log, step};
+use crate::kind::{KINDS, Kind};
 use std::io;
-use steps::turn::{Left, Turn};
-use steps::{draw, size, turn};
-use tree::{Anchor, BlockIndex};
+use steps::{Draw, History, Left, sum};
 
 // Where the generator starts, but for the depth.
 const SEED: u64 = 0x9e37_79b9_7f4a_7c15;
 
-// How many steps follow the format.
+// How many steps follow the format, which is step 0, of the number after those of the kinds. A format has no count.
 const STEPS: u64 = 700;
 
-// How many kinds of steps there are, from 0. The format has the number after them.
-const KINDS: u64 = 19;
-
 // Runs and prints the history of a depth.
-pub fn run(rt: &impl Print, depth: u64) -> io::Result<()>
-    requires { IsDepth depth }
+pub fn run<const LEN: usize>(rt: &impl Print, levels: u64) -> io::Result<()>
+    requires levels { (1 ≤ levels) × (levels ≤ 6) }
+    requires len { LEN ≡ card_length levels }
 {
-    let len = size::bytes(depth);
-    let mut card = [0xa5u8; 6608];
-    let mut old = [0u8; 6608];
-    run_on(rt, depth, &mut card[0..len], &mut old[0..len])
-}
-
-// The same, with the bytes of the card and of its older copy lent.
-fn run_on(rt: &impl Print, depth: u64, card: &mut [u8], old: &mut [u8]) -> io::Result<()>
-    requires card { IsCard depth card.old }
-    requires card_2 { IsCard depth old.old }
-{
-    let left = format(rt, depth, card)?;
-    let anchor = left.anchor;
-    words::put(old, 0, card);
-    steps(rt, depth, anchor, left.drawn, card, old)
-}
-
-// Formats the card under a key that is drawn, and prints that as step 0. A format has no count.
-fn format(rt: &impl Print, depth: u64, card: &mut [u8]) -> io::Result<Left> {
-    let mut key = [0u8; 16];
-    let drawn = draw::fill(SEED ^ depth, &mut key);
-    let made = calls::format(key, depth, card);
-    let answer = made.answer;
-    let anchor = made.anchor;
-    let left = turn::untouched(answer, 0, anchor, drawn);
-    log::depth(rt, depth)?;
-    log::step(rt, 0, KINDS, left, card)?;
-    Ok(left)
-}
-
-// The steps, each from the anchor and the number drawn last that the one before it left.
-fn steps(
-    rt: &impl Print,
-    depth: u64,
-    first: Anchor,
-    drawn: u64,
-    card: &mut [u8],
-    old: &mut [u8],
-) -> io::Result<()>
-    requires card { IsCard depth card.old }
-    requires card_2 { IsCard depth old.old }
-{
-    let mut anchor = first;
-    let mut last = drawn;
-    let mut number: u64 = 0;
-    while number < STEPS {
-        number += 1;
-        let left = one(rt, number, depth, anchor, last, card, old)?;
-        anchor = left.anchor;
-        last = left.drawn;
+    println!(rt; "depth {levels}")?;
+    let draw = Draw {
+        last: SEED ^ levels,
+    };
+    let (mut history, left) = History::<LEN>::format(levels, draw);
+    log(rt, 0, KINDS, left, &history)?;
+    for number in 1..=STEPS {
+        let kind = history.turn.draw.pick(KINDS);
+        history.draw_block();
+        let left = Kind::from(kind).step(&mut history);
+        log(rt, number, kind, left, &history)?;
     }
     Ok(())
 }
 
-// Draws a kind and a block, takes the step and prints it.
-fn one(
+// The line of a step: its number and kind, the answer's number and node, the count of the cipher's calls, the root nonce, and the sums of
+// the card, the buffer and the range buffer.
+fn log<const LEN: usize>(
     rt: &impl Print,
     number: u64,
-    depth: u64,
-    anchor: Anchor,
-    last: u64,
-    card: &mut [u8],
-    old: &mut [u8],
-) -> io::Result<Left>
-    requires card { IsCard depth card.old }
-    requires card_2 { IsCard depth old.old }
-{
-    let r = draw::next(last);
-    let q = draw::next(r);
-    let kind = r % KINDS;
-    let block = BlockIndex(draw::pick(q, size::blocks(depth)));
-    let turn = Turn {
-        anchor: anchor,
-        block: block,
-        drawn: q,
-    };
-    let left = step::step(kind, turn, depth, card, old);
-    log::step(rt, number, kind, left, card)?;
-    Ok(left)
+    kind: u64,
+    left: Left,
+    history: &History<LEN>,
+) -> io::Result<()> {
+    let answer = left.answer.value;
+    println!(rt;
+        "{number} {kind} {} {} {} {} {} {} {}",
+        tree::number(answer),
+        tree::node_of(answer),
+        left.answer.count,
+        history.turn.anchor.root.0,
+        sum::adler(&history.card),
+        left.buffer,
+        left.ranges
+    )
 }

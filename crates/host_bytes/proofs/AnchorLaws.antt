@@ -5,10 +5,7 @@ use mathlib.Core.List.{List, [], ◌++◌}
 use mathlib.Core.Logic.{⊎_elim}
 use Prim.Native.Nat.{ℕ, ◌+◌, ◌^◌, ◌<◌}
 use native.Mathlib.Omega.{arith}
-use lib.ListN.{length, take, drop, length-append, length-drop}
-use lib.Seq.{take-append-le, drop-append-le, drop_at, take_all, length-take-le}
-use Rattle.words.specs.Bytes.{part}
-use Rattle.words.proofs.Bytes.{part-part}
+use lib.ListN.{length, take}
 use Rattle.words.proofs.Cases.{equal_or_not}
 use Rattle.cmac.specs.Cmac.{cmac_of}
 use Rattle.tree.specs.Numbers.{be8}
@@ -19,44 +16,32 @@ use Rattle.tree.specs.declared.Anchor.{Anchor}
 use Rattle.tree.specs.declared.Refusal.{Refusal}
 use Rattle.tree.specs.declared.Refusal.TheVariants.{Depth, RootNonce, CardLength, BlockNumber, BlockLength, RangeLength, NoncesSpent}
 use Rattle.tree.specs.declared.Refusal.TheVariants.{NotAwaited}
-use Rattle.tree.specs.declared.Answer.{Answer}
-use Rattle.tree.specs.declared.Answer.TheVariants.{Whole, Wrong, Refused}
-use Rattle.tree.proofs.ByteLaws.{length-be}
+use Rattle.tree.specs.Answer.{Answer}
+use Rattle.tree.specs.Answer.{Whole, Wrong, Refused}
 use Rattle.tree.proofs.CallLaws.{accepted, settled-answer}
 use Rattle.host_bytes.specs.Host.{anchor_bytes, refused_length, number, anchor_of, code_of, Host, hosted, measured, host_call, host_format}
 use Rattle.host_bytes.specs.Host.{Hosts, Codes}
 use Rattle.host_bytes.specs.RoundTrip.{Stands, RoundTrip}
+use Rattle.host_bytes.proofs.StoredLaws.{stored-long, stored-before, stored_last}
 use Rattle.host_bytes.proofs.HostLaws.{number-be, measured-in, measured-out, host-call, host-format}
 
 -- The root nonce stored
 
-module _ (s : List ℕ) (long : length s ≡ anchor_bytes) (t : ℕ) where
-  front : length (take 24 s) ≡ 24
-  front = length-take-le 24 s (omega arith)
+anchor-same : {k l : List ℕ} {n m u r : ℕ} → k ≡ l → n ≡ m → u ≡ r
+    → ◌≡◌ {A = Anchor} (record { key = k; depth = n; root = record { 0 = u } })
+    (record { key = l; depth = m; root = record { 0 = r } })
+anchor-same p q r = cc
 
-  put-long : length (take 24 s ++ be8 t) ≡ anchor_bytes
-  put-long = length-append (take 24 s) (be8 t) ∙ omega (arith, front, length-be 8 t)
-
-  put-key : part (take 24 s ++ be8 t) 0 16 ≡ part s 0 16
-  put-key = take-append-le 16 (take 24 s) (be8 t) (omega (arith, front)) ∙ part-part s 0 24 0 16 (omega arith)
-
-  put-depth : part (take 24 s ++ be8 t) 16 8 ≡ part s 16 8
-  put-depth =
-      ap (take 8) (drop-append-le 16 (take 24 s) (be8 t) (omega (arith, front)))
-      ∙ take-append-le 8 (drop 16 (take 24 s)) (be8 t) (omega (arith, front, length-drop 16 (take 24 s)))
-      ∙ part-part s 0 24 16 8 (omega arith)
-
-  put-root : part (take 24 s ++ be8 t) 24 8 ≡ be8 t
-  put-root = ap (take 8) (drop_at (take 24 s) (be8 t) 24 front) ∙ take_all 8 (be8 t) (omega (arith, length-be 8 t))
-
-  pub put-stands : t < 2 ^ 64 → Stands (take 24 s ++ be8 t) (rooted (anchor_of s) t)
-  unfolding anchor_of
-  put-stands h = record { long = put-long; is = same put-key (ap number put-depth) (ap number put-root ∙ number-be 8 t (omega arith)) }
-    where
-      same : {k l : List ℕ} {n m u r : ℕ} → k ≡ l → n ≡ m → u ≡ r
-          → ◌≡◌ {A = Anchor} (record { key = k; depth = n; root = record { 0 = u } })
-          (record { key = l; depth = m; root = record { 0 = r } })
-      same p q r = cc
+pub put-stands : (s : List ℕ) → length s ≡ anchor_bytes → (t : ℕ) → t < 2 ^ 64
+    → Stands (take 24 s ++ be8 t) (rooted (anchor_of s) t)
+unfolding anchor_of
+put-stands s long t h =
+    record {
+      long = stored-long s 24 long t;
+      is = anchor-same (stored-before s 24 long t 0 16 (omega arith))
+          (ap number (stored-before s 24 long t 16 8 (omega arith)))
+          (ap number (stored_last s 24 long t) ∙ number-be 8 t (omega arith));
+    }
 
 -- Codes
 
@@ -195,7 +180,7 @@ module _ (s : List ℕ) (long : length s ≡ anchor_bytes) (card : List ℕ) (c 
   o = outcome (cmac_of (anchor_of s).key) (anchor_of s) card c
 
   told : Hosts (hosted (renews c) s (outcome (cmac_of (anchor_of s).key) (anchor_of s) card c)) code e left lent
-  told = subst (λ (h : Host). Hosts h code e left lent) (host-call s card (anchor_of s) refl long c) g
+  told = subst (λ (h : Host). Hosts h code e left lent) (host-call s card long c) g
 
   -- the round trip, and the outcome
   pub call-stands : Stands e (outcome (cmac_of (anchor_of s).key) (anchor_of s) card c).anchor
@@ -215,7 +200,7 @@ module _ (s card e left : List ℕ) (g : Hosts (host_format s card) 0 e left [])
   made = format (cmac_of (anchor_of s).key) (anchor_of s).key (anchor_of s).depth card
 
   format-told : Hosts (hosted true s (format (cmac_of (anchor_of s).key) (anchor_of s).key (anchor_of s).depth card)) 0 e left []
-  format-told = subst (λ (h : Host). Hosts h 0 e left []) (host-format s card (anchor_of s) refl format-long) g
+  format-told = subst (λ (h : Host). Hosts h 0 e left []) (host-format s card format-long) g
 
   pub format-whole : (format (cmac_of (anchor_of s).key) (anchor_of s).key (anchor_of s).depth card).answer ≡ Whole
   format-whole = code-whole made.answer (sym format-told.coded)

@@ -4,14 +4,14 @@ use mathlib.Core.List.{List, [], ◌∷◌, ◌++◌}
 use Prim.Native.Nat.{ℕ, ◌+◌, ◌*◌}
 use lib.ListN.{length, replicate}
 use Rattle.tree.specs.declared.Node.{Node}
-use Rattle.tree.specs.declared.Answer.TheVariants.{Whole, Wrong}
+use Rattle.tree.specs.Answer.{Whole, Wrong}
 use Rattle.tree.specs.Numbers.{be}
 use Rattle.tree.specs.Calls.{Call, lent_to}
 use Rattle.plan.specs.declared.Plan.{Plan}
 use Rattle.host_bytes.specs.Host.{number, anchor_of, code_of, host_call, host_format, Hosts}
 use Rattle.host_bytes.specs.Split.{plan_of, bytes_of, host_plan, HostsPlan, host_put, HostsPut}
 use Rattle.host_bytes.proofs.HostLaws.{measured-out}
-use Rattle.host_bytes.proofs.SplitLaws.{one-wrong, plan-unmeasured, put-unmeasured}
+use Rattle.host_bytes.proofs.SplitLaws.{plan-unmeasured, put-unmeasured}
 
 -- key, then n in 8 bytes, then T in 8, big-endian
 pub anchor-bytes : anchor_of (replicate 16 7 ++ (0 ∷ 0 ∷ 0 ∷ 0 ∷ 0 ∷ 0 ∷ 0 ∷ 10 ∷ 1 ∷ 2 ∷ 3 ∷ 4 ∷ 5 ∷ 6 ∷ 7 ∷ 8 ∷ []))
@@ -41,8 +41,8 @@ anchor-length s card d = (measured-out s card [] _ d, λ c. measured-out s card 
 pub plan-lengths : (s card : List ℕ) (i : ℕ) (block ranges b messages : List ℕ)
     → ((length s ≡ 32) × (length b ≡ 24) × (length messages ≡ 656) → ⊥)
     → HostsPlan (host_plan s card i block ranges b messages) 5 b card ranges messages
-plan-lengths s card i block ranges b messages d = plan-unmeasured s card i block ranges b messages (one-wrong s b messages 656 d)
+plan-lengths s card i block ranges b messages d = plan-unmeasured s card i block ranges b messages d
 
 pub put-lengths : (s b card : List ℕ) (u : ℕ) (tag : List ℕ) → ((length s ≡ 32) × (length b ≡ 24) × (length tag ≡ 16) → ⊥)
     → HostsPut (host_put s b card u tag) 5 s b card
-put-lengths s b card u tag d = put-unmeasured s b card u tag (one-wrong s b tag 16 d)
+put-lengths s b card u tag d = put-unmeasured s b card u tag d

@@ -1,4 +1,5 @@
 pub mod HostLaws
+pub mod Sizes
 pub mod StoredLaws
 pub mod AnchorLaws
 pub mod SplitLaws

@@ -13,8 +13,8 @@ use Rattle.tree.specs.Numbers.{be8}
 use Rattle.tree.specs.Answer.{is_whole}
 use Rattle.tree.specs.Calls.{write, rooted, outcome}
 use Rattle.tree.specs.declared.Anchor.{Anchor}
-use Rattle.tree.specs.declared.Answer.{Answer}
-use Rattle.tree.specs.declared.Answer.TheVariants.{Whole, Wrong, Refused}
+use Rattle.tree.specs.Answer.{Answer}
+use Rattle.tree.specs.Answer.{Whole, Wrong, Refused}
 use Rattle.tree.proofs.LayoutLaws.{few-leaves}
 use Rattle.tree.proofs.CallLaws.{accepted, outcome-answer}
 use Rattle.plan.specs.Places.{place_of, fill, full}
@@ -29,7 +29,7 @@ use Rattle.host_bytes.specs.Split.{plan_bytes, plan_of, bytes_of, tag_bytes, Hos
 use Rattle.host_bytes.specs.Split.{HostPut, with_root, hosted_put, host_put, HostsPut}
 use Rattle.host_bytes.specs.RoundTrip.{Stands, StandsPlan, SplitTrip}
 use Rattle.host_bytes.proofs.AnchorLaws.{put-stands, code-whole, whole_code, outcome-leaves}
-use Rattle.host_bytes.proofs.SplitLaws.{lengths, all_right, host-plan, host-put}
+use Rattle.host_bytes.proofs.SplitLaws.{lengths, host-plan, host-put}
 use Rattle.host_bytes.proofs.PlanBytesLaws.{bytes-stand, filled-stand}
 
 -- The plan
@@ -98,7 +98,7 @@ module _ (s card b : List ℕ) (i : ℕ) (block ranges buffer : List ℕ) where
         → HostsPlan (hosted_plan b buffer (planned (cmac_of (anchor_of s).key) (anchor_of s) card i block ranges)) code made left filled gave
     plan-told l m k g =
         subst (λ (h : HostPlan). HostsPlan h code made left filled gave)
-        (host-plan s card i block ranges b buffer a refl (all_right s b buffer message_room (l, m, k))) g
+        (host-plan s card i block ranges b buffer (l, m, k)) g
 
     pub plan-stored : HostsPlan (host_plan s card i block ranges b buffer) code made left filled gave → code ≡ 0
         → StandsPlan made (planned (cmac_of (anchor_of s).key) (anchor_of s) card i block ranges).plan
@@ -175,7 +175,8 @@ module _ (s card b : List ℕ) (long : length s ≡ anchor_bytes) (p : Plan) (st
     pub put-told : HostsPut (hosted_put s b (put (anchor_of s) p card u tag)) code e made left
     put-told =
         subst (λ (h : HostPut). HostsPut h code e made left)
-        (host-put s b card u tag (anchor_of s) p tag refl (sym stands.is) refl (all_right s b tag tag_bytes (long, stands.long, t16))) g
+        (host-put s b card u tag (long, stands.long, t16)
+        ∙ ap (λ (q : Plan). hosted_put s b (put (anchor_of s) q card u tag)) stands.is) g
 
     pub put-stored : Stands e (put (anchor_of s) p card u tag).anchor × StandsPlan made (put (anchor_of s) p card u tag).plan
     put-stored =

@@ -6,7 +6,7 @@ use Rattle.tree.specs.Numbers.{be8}
 use Rattle.tree.specs.Answer.{number_of, node_of, is_whole}
 use Rattle.tree.specs.Calls.{Call, lent_to, renews, Outcome, outcome, format}
 use Rattle.tree.specs.declared.Anchor.{Anchor}
-use Rattle.tree.specs.declared.Answer.{Answer}
+use Rattle.tree.specs.Answer.{Answer}
 
 -- the number that bytes stand for, big-endian
 unfoldable pub number : List ℕ → ℕ

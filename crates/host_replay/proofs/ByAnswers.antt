@@ -11,8 +11,8 @@ use Rattle.tree.specs.declared.Node.{Node}
 use Rattle.tree.specs.declared.Refusal.{Refusal}
 use Rattle.tree.specs.declared.Refusal.TheVariants.{Depth, RootNonce, CardLength, BlockNumber, BlockLength, RangeLength, NoncesSpent}
 use Rattle.tree.specs.declared.Refusal.TheVariants.{NotAwaited}
-use Rattle.tree.specs.declared.Answer.{Answer}
-use Rattle.tree.specs.declared.Answer.TheVariants.{Whole, Wrong, Refused}
+use Rattle.tree.specs.Answer.{Answer}
+use Rattle.tree.specs.Answer.{Whole, Wrong, Refused}
 use Rattle.plan.specs.Split.{planned}
 use Rattle.plan.specs.Puts.{begun, EachPut, PutUntouched}
 use Rattle.replay.specs.Array.{Array, moved}

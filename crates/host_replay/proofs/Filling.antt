@@ -17,7 +17,7 @@ use Rattle.tree.specs.Layout.{size}
 use Rattle.tree.specs.Labels.{Labels, message, labels}
 use Rattle.tree.specs.Calls.{write, answer_of}
 use Rattle.tree.specs.declared.Anchor.{Anchor}
-use Rattle.tree.specs.declared.Answer.TheVariants.{Whole}
+use Rattle.tree.specs.Answer.{Whole}
 use Rattle.tree.proofs.ByteLaws.{length-be}
 use Rattle.tree.proofs.LabelLaws.{labels-sized, new-root, new-sized}
 use Rattle.tree.proofs.LimitLaws.{Writes}

@@ -13,7 +13,7 @@ use Rattle.tree.specs.Numbers.{be8}
 use Rattle.tree.specs.Answer.{is_whole}
 use Rattle.tree.specs.Calls.{write, Outcome, answer_of, outcome}
 use Rattle.tree.specs.declared.Anchor.{Anchor}
-use Rattle.tree.specs.declared.Answer.TheVariants.{Whole}
+use Rattle.tree.specs.Answer.{Whole}
 use Rattle.tree.proofs.CallLaws.{accepted, outcome-done}
 use Rattle.plan.specs.Places.{plan_nodes, full}
 use Rattle.plan.specs.Split.{Given, given, Planned}
@@ -197,7 +197,7 @@ module _ (s : List ℕ) (long : length s ≡ anchor_bytes) (p : PlanCalled) (qs 
       let c = like-outcome f u in
       let w : is_whole wrote.answer ≡ true = ap is_whole (code-whole wrote.answer (sym c.coded ∙ zero)) in
       subst (λ (h : Host). Hosts h p.code (last_anchor s qs) (last_card p.left qs) p.lent)
-      (sym (host-call s p.card a refl long (write p.index p.block p.ranges)))
+      (sym (host-call s p.card long (write p.index p.block p.ranges)))
       (record {
         coded = c.coded;
         anchored = like-bytes c.anchored ∙ sym (ap (λ (b : Bool). cond b (take 24 s ++ be8 wrote.anchor.root.0) s) w);

@@ -24,7 +24,7 @@ use Rattle.replay.proofs.Moves.{moved_length}
 use Rattle.replay.proofs.Anchors.{after-key, next-root, after-root}
 use Rattle.host_bytes.specs.Host.{anchor_of, code_of}
 use Rattle.host_bytes.proofs.AnchorLaws.{code-whole, whole_code}
-use Rattle.host_replay.specs.Called.{Held, bytes, anchor_in, Called, call, step_of, steps, back_of, History, Formatted}
+use Rattle.host_replay.specs.Called.{Held, bytes, anchor_in, Called, step_of, steps, back_of, History, Formatted}
 use Rattle.host_replay.specs.Called.{begin, Demand3Of}
 use Rattle.host_replay.specs.Plain.{whole, called, shown, left_by, array_by, counted, renewals_by, Shows, Each, Agreed, Untouched}
 use Rattle.host_replay.specs.Plain.{AllUntouched, Unwiped, WritesUntouched, AllFilled, PlainDemand}

@@ -14,8 +14,8 @@ use Rattle.tree.specs.Numbers.{be8}
 use Rattle.tree.specs.Answer.{is_whole}
 use Rattle.tree.specs.Calls.{write, answer_of}
 use Rattle.tree.specs.declared.Anchor.{Anchor}
-use Rattle.tree.specs.declared.Answer.{Answer}
-use Rattle.tree.specs.declared.Answer.TheVariants.{Whole, Wrong, Refused}
+use Rattle.tree.specs.Answer.{Answer}
+use Rattle.tree.specs.Answer.{Whole, Wrong, Refused}
 use Rattle.plan.specs.Split.{Planned, plan_settled, planned, put}
 use Rattle.plan.specs.Puts.{PutStep, Going, begun, after_put, after_all_puts, EachPut, PutUntouched}
 use Rattle.replay.specs.Run.{finished, split_outcome}

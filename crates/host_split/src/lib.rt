@@ -1,5 +1,5 @@
-// A plan and a put of a tag as C has them: the anchor, the plan and the messages are bytes, and the answer is one number. Another length of
-// any of these is refused before the rest.
+// A plan and a put of a tag as C has them: the anchor, the plan and the messages are bytes, and the answer is one number, since C calls
+// them through pat. Another length of any of these is refused before the rest.
 #![tactic(auto)]
 
 ghost use Rattle.host_bytes.specs.Split.{host_plan, HostsPlan, host_put, HostsPut};
@@ -7,9 +7,11 @@ ghost use Rattle.host_bytes.specs.Split.{host_plan, HostsPlan, host_put, HostsPu
 use host_bytes::{
     ANCHOR_BYTES, MESSAGE_BYTES, PLAN_BYTES, REFUSED_LENGTH, TAG_BYTES, anchor, code, plan_bytes,
 };
-use tree::{Answer, BlockIndex, Node};
+use tree::{BlockIndex, Error, Node};
+use words::{Block, Packed};
 
 // Plans a write whose tags come singly: puts its labels on the card, its ranges, the plan and the messages into their buffers.
+#[tactic(auto, unfolding(host_bytes::specs::Host::code_of, host_bytes::specs::Split::host_plan), using(host_bytes::proofs::Sizes::plan))]
 pub fn plan(
     anchor: &[u8],
     card: &mut [u8],
@@ -24,52 +26,40 @@ pub fn plan(
         plan.old messages.old)
         result plan.new card.new ranges.new messages.new }
 {
-    if anchor.len() != ANCHOR_BYTES {
+    if anchor.len() != ANCHOR_BYTES || plan.len() != PLAN_BYTES {
         return REFUSED_LENGTH;
     }
-    if plan.len() != PLAN_BYTES {
+    let Some(messages) = messages.as_mut_array::<MESSAGE_BYTES>() else {
         return REFUSED_LENGTH;
-    }
-    if messages.len() != MESSAGE_BYTES {
-        return REFUSED_LENGTH;
-    }
-    let given = anchor::of(anchor);
-    let planned = split::plan_in(given, card, BlockIndex(index), block, ranges, messages);
-    let answer = planned.answer;
-    let Answer::Whole = answer else {
-        return code::of(answer);
     };
-    let made = planned.plan;
-    plan_bytes::put(plan, made);
-    0
+    let given = anchor::of(anchor);
+    match split::plan(given, card, BlockIndex(index), block, ranges, messages).value {
+        Ok(made) => {
+            plan_bytes::put(plan, made);
+            0
+        }
+        Err(error) => code::of_error(error),
+    }
 }
 
 // Puts one tag of a plan on the card, and notes it in the plan. The last one puts the new root nonce into the anchor.
+#[tactic(auto, unfolding(host_bytes::specs::Host::code_of, host_bytes::specs::Split::host_put), using(host_bytes::proofs::Sizes::tag))]
 pub fn put_tag(anchor: &mut [u8], plan: &mut [u8], card: &mut [u8], node: u64, tag: &[u8]) -> u64
     ensures { HostsPut
         (host_put anchor.old plan.old card.old node tag.now)
         result anchor.new plan.new card.new }
 {
-    if anchor.len() != ANCHOR_BYTES {
-        return REFUSED_LENGTH;
-    }
-    if plan.len() != PLAN_BYTES {
-        return REFUSED_LENGTH;
-    }
-    if tag.len() != TAG_BYTES {
+    if anchor.len() != ANCHOR_BYTES || plan.len() != PLAN_BYTES || tag.len() != TAG_BYTES {
         return REFUSED_LENGTH;
     }
     let given = anchor::of(anchor);
     let kept = plan_bytes::of(plan);
-    let piece = words::bytes_of(words::block_at(tag, 0));
-    let placed = split::put_tag(given, kept, card, Node(node), piece);
-    let answer = placed.answer;
-    let Answer::Whole = answer else {
-        return code::of(answer);
-    };
-    let filled = placed.plan;
-    plan_bytes::put_filled(plan, filled.filled);
-    let moved = placed.anchor;
-    anchor::put_moved(anchor, given.root, moved.root);
-    0
+    match split::put_tag(given, kept, card, Node(node), Block::at(tag, 0).into()) {
+        Ok(placed) => {
+            plan_bytes::put_filled(plan, placed.plan.filled);
+            anchor::put_moved(anchor, given.root, placed.anchor.root);
+            0
+        }
+        Err(refusal) => code::of_error(Error::from(refusal)),
+    }
 }

@@ -1,41 +1,48 @@
 // Wipes of any card.
-ghost use Rattle.std.specs.Prelude.{◌≡◌, ◌^◌, ◌≤◌, ◌<◌, length};
-ghost use Rattle.steps.specs.Card.{IsCard};
+ghost use Rattle.std.specs.Prelude.{◌≡◌, ◌≤◌, length};
+ghost use Rattle.tree.specs.Layout.{card_length};
 
 use crate::refuse;
-use steps::turn::{Left, Turn};
-use steps::{call, draw, flip};
+use steps::{Left, Turn, flip};
 
-// Half of the wipes are accepted, whatever the card is, and a limit refuses the others.
-pub fn step(mut turn: Turn, depth: u64, card: &mut [u8], old: &[u8]) -> Left
-    requires block_bound { turn.block.0 < 2 ^ depth }
-    requires card { IsCard depth card.old }
-    requires card_2 { IsCard depth old.now }
-{
-    let p = draw::next(turn.drawn);
-    let kind = p % 8;
-    if kind < 4 {
-        turn.drawn = spoil(kind, p, card, old);
-        return call::wipe(turn, card);
-    }
-    turn.drawn = p;
-    refuse::wipe(turn, depth, card)
+// What is wiped: the card as it is, with a bit flipped, with bytes that are drawn or with those of the old card. Or a limit refuses the
+// wipe.
+#[derive(Clone, Copy)]
+enum Wiped {
+    Card,
+    Flipped,
+    Drawn,
+    Old,
+    Nothing,
 }
 
-// Leaves the card as it is, flips a bit, or puts bytes that are drawn or the old card in its place, and answers the number drawn last.
-fn spoil(kind: u64, drawn: u64, card: &mut [u8], old: &[u8]) -> u64
-    requires in_bounds { 1 ≤ length card.old }
-    requires card_len { length card.old ≡ length old.now }
+// What a number picks.
+impl From<u64> for Wiped {
+    fn from(drawn: u64) -> Wiped {
+        match drawn % 8 {
+            0 => Wiped::Card,
+            1 => Wiped::Flipped,
+            2 => Wiped::Drawn,
+            3 => Wiped::Old,
+            _ => Wiped::Nothing,
+        }
+    }
+}
+
+// Half of the wipes are accepted, whatever the card is, and a limit refuses the others.
+pub fn step(turn: &mut Turn, levels: u64, card: &mut [u8], copy: &[u8]) -> Left
+    requires levels { (1 ≤ levels) × (levels ≤ 6) }
+    requires card { length card.old ≡ card_length levels }
+    requires copy { length copy.now ≡ card_length levels }
 {
-    if kind == 0 {
-        return drawn;
+    match Wiped::from(turn.draw.next()) {
+        Wiped::Card => {}
+        Wiped::Flipped => {
+            flip::one(&mut turn.draw, card);
+        }
+        Wiped::Drawn => turn.draw.fill(card),
+        Wiped::Old => card.copy_from_slice(copy),
+        Wiped::Nothing => return refuse::wipe(turn, levels, card),
     }
-    if kind == 1 {
-        return flip::one(drawn, card);
-    }
-    if kind == 2 {
-        return draw::fill(drawn, card);
-    }
-    words::put(card, 0, old);
-    drawn
+    turn.wipe(card)
 }

@@ -1,11 +1,9 @@
 // The calls for C, which the static library pat_c exports: format, read, write, check, wipe, a write's plan and the put of a tag, and the
 // write on an anchor in its place. A slice passes as a pointer and a length. The anchor is 32 bytes: key, depth and root nonce, the numbers
 // in eight bytes each, big-endian; the write in place has it as a struct. A plan is 24 bytes: block number, new root nonce and filled
-// places, in the same way. A plan's messages have 656 bytes at every depth, a tag 16. The answer is the refusal's number plus 256 times the
-// node, 0 when accepted. It leaves out how often the cipher was called.
+// places, in the same way. A plan's messages have 656 bytes at every depth, a tag 16. Since C calls, the answer is one number: that of the
+// refusal plus 256 times the node, 0 when accepted. It leaves out how often the cipher was called.
 #![tactic(auto)]
-
-mod in_place;
 
 ghost use Rattle.std.specs.Prelude.{[]};
 ghost use Rattle.cmac.specs.Cmac.{cmac_of};
@@ -14,10 +12,11 @@ ghost use Rattle.host_bytes.specs.Host.{Hosts, host_call, host_format, Codes};
 ghost use Rattle.host_bytes.specs.Split.{host_plan, HostsPlan, host_put, HostsPut};
 
 use host_bytes::{ANCHOR_BYTES, REFUSED_LENGTH, anchor, code};
-use tree::{Anchor, Answer, BlockIndex};
+use tree::{Anchor, BlockIndex, Error};
 
 // Formats the card, and sets the anchor's root nonce to 0.
 #[unsafe(no_mangle)]
+#[tactic(auto, unfolding(host_bytes::specs::Host::code_of, host_bytes::specs::Host::host_format))]
 pub extern "C" fn pat_format(anchor: &mut [u8], card: &mut [u8]) -> u64
     ensures { Hosts (host_format anchor.old card.old) result anchor.new card.new [] }
 {
@@ -25,19 +24,18 @@ pub extern "C" fn pat_format(anchor: &mut [u8], card: &mut [u8]) -> u64
         return REFUSED_LENGTH;
     }
     let given = anchor::of(anchor);
-    let key = given.key;
-    let reply = calls::format(key, given.depth, card);
-    let answer = reply.answer;
-    let Answer::Whole = answer else {
-        return code::of(answer);
-    };
-    let made = reply.anchor;
-    anchor::put_root(anchor, made.root);
-    0
+    match calls::format(given.key, given.depth, card) {
+        Ok(made) => {
+            anchor::put_root(anchor, made.root);
+            0
+        }
+        Err(refusal) => code::of_error(Error::from(refusal)),
+    }
 }
 
 // Reads a block into the buffer.
 #[unsafe(no_mangle)]
+#[tactic(auto, unfolding(host_bytes::specs::Host::code_of, host_bytes::specs::Host::host_call), using(host_bytes::proofs::Sizes::call))]
 pub extern "C" fn pat_read(anchor: &[u8], card: &[u8], index: u64, buffer: &mut [u8]) -> u64
     ensures { Hosts (host_call anchor.now card.now (read index buffer.old))
         result anchor.now card.now buffer.new }
@@ -46,13 +44,12 @@ pub extern "C" fn pat_read(anchor: &[u8], card: &[u8], index: u64, buffer: &mut 
         return REFUSED_LENGTH;
     }
     let given = anchor::of(anchor);
-    let report = calls::read(given, card, BlockIndex(index), buffer);
-    let answer = report.answer;
-    code::of(answer)
+    code::of(calls::read(given, card, BlockIndex(index), buffer).value)
 }
 
 // Writes a block, and puts the new root nonce into the anchor.
 #[unsafe(no_mangle)]
+#[tactic(auto, unfolding(host_bytes::specs::Host::code_of, host_bytes::specs::Host::host_call), using(host_bytes::proofs::Sizes::call))]
 pub extern "C" fn pat_write(
     anchor: &mut [u8],
     card: &mut [u8],
@@ -68,18 +65,18 @@ pub extern "C" fn pat_write(
         return REFUSED_LENGTH;
     }
     let given = anchor::of(anchor);
-    let reply = calls::write(given, card, BlockIndex(index), block, ranges);
-    let answer = reply.answer;
-    let Answer::Whole = answer else {
-        return code::of(answer);
-    };
-    let moved = reply.anchor;
-    anchor::put_root(anchor, moved.root);
-    0
+    match calls::write(given, card, BlockIndex(index), block, ranges).value {
+        Ok(moved) => {
+            anchor::put_root(anchor, moved.root);
+            0
+        }
+        Err(error) => code::of_error(error),
+    }
 }
 
 // Checks every tag of the card.
 #[unsafe(no_mangle)]
+#[tactic(auto, unfolding(host_bytes::specs::Host::code_of, host_bytes::specs::Host::host_call), using(host_bytes::proofs::Sizes::call))]
 pub extern "C" fn pat_check(anchor: &[u8], card: &[u8]) -> u64
     ensures { Hosts (host_call anchor.now card.now check) result anchor.now card.now [] }
 {
@@ -87,13 +84,12 @@ pub extern "C" fn pat_check(anchor: &[u8], card: &[u8]) -> u64
         return REFUSED_LENGTH;
     }
     let given = anchor::of(anchor);
-    let report = calls::check(given, card);
-    let answer = report.answer;
-    code::of(answer)
+    code::of(calls::check(given, card).value)
 }
 
 // Empties the card under the same key, and puts the new root nonce into the anchor.
 #[unsafe(no_mangle)]
+#[tactic(auto, unfolding(host_bytes::specs::Host::code_of, host_bytes::specs::Host::host_call), using(host_bytes::proofs::Sizes::call))]
 pub extern "C" fn pat_wipe(anchor: &mut [u8], card: &mut [u8]) -> u64
     ensures { Hosts (host_call anchor.old card.old wipe) result anchor.new card.new [] }
 {
@@ -101,18 +97,18 @@ pub extern "C" fn pat_wipe(anchor: &mut [u8], card: &mut [u8]) -> u64
         return REFUSED_LENGTH;
     }
     let given = anchor::of(anchor);
-    let reply = calls::wipe(given, card);
-    let answer = reply.answer;
-    let Answer::Whole = answer else {
-        return code::of(answer);
-    };
-    let wiped = reply.anchor;
-    anchor::put_root(anchor, wiped.root);
-    0
+    match calls::wipe(given, card).value {
+        Ok(wiped) => {
+            anchor::put_root(anchor, wiped.root);
+            0
+        }
+        Err(error) => code::of_error(error),
+    }
 }
 
 // The write for boot code, which has the anchor as a struct in memory of its own: accepted, it moves the anchor in its place.
 #[unsafe(no_mangle)]
+#[tactic(auto, unfolding(host_bytes::specs::Host::code_of), using(host_bytes::proofs::Sizes::call))]
 pub extern "C" fn pat_write_in_place(
     anchor: &mut Anchor,
     card: &mut [u8],
@@ -125,9 +121,13 @@ pub extern "C" fn pat_write_in_place(
         (write index block.now ranges.old))
         result anchor.new card.new ranges.new }
 {
-    let reply = in_place::write(*anchor, card, index, block, ranges);
-    *anchor = reply.anchor;
-    reply.code
+    match calls::write(*anchor, card, BlockIndex(index), block, ranges).value {
+        Ok(moved) => {
+            *anchor = moved;
+            0
+        }
+        Err(error) => code::of_error(error),
+    }
 }
 
 // Plans a write whose tags come singly: puts its labels on the card, its ranges, the plan and the messages into their buffers.

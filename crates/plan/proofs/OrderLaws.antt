@@ -14,7 +14,7 @@ use Rattle.tree.specs.Labels.{Labels, message}
 use Rattle.tree.specs.Card.{written}
 use Rattle.tree.specs.Calls.{write, rooted, Outcome, answer_of}
 use Rattle.tree.specs.declared.Anchor.{Anchor}
-use Rattle.tree.specs.declared.Answer.TheVariants.{Whole}
+use Rattle.tree.specs.Answer.{Whole}
 use Rattle.tree.proofs.NodeLaws.{path-pairs}
 use Rattle.tree.proofs.CardLaws.{length-laid}
 use Rattle.tree.proofs.LimitLaws.{Writes}

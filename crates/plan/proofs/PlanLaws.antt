@@ -15,8 +15,8 @@ use Rattle.tree.specs.Labels.{Labels, message, labels, written_labels}
 use Rattle.tree.specs.Card.{laid}
 use Rattle.tree.specs.Calls.{write, tagged, Outcome, answer_of, outcome, settled}
 use Rattle.tree.specs.declared.Anchor.{Anchor}
-use Rattle.tree.specs.declared.Answer.{Answer}
-use Rattle.tree.specs.declared.Answer.TheVariants.{Whole, Wrong, Refused}
+use Rattle.tree.specs.Answer.{Answer}
+use Rattle.tree.specs.Answer.{Whole, Wrong, Refused}
 use Rattle.tree.proofs.NodeLaws.{On, Off, on-or-off, path-level, path_parent, path-root, path-is-node, path-among}
 use Rattle.tree.proofs.LabelLaws.{Sized, labels-root, labels-below, labels-sized, new-root, new-off, new-sized}
 use Rattle.tree.proofs.LimitLaws.{Writes}

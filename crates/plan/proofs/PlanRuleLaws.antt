@@ -14,7 +14,7 @@ use Rattle.tree.specs.Card.{written, first_wrong}
 use Rattle.tree.specs.Limits.{first_failing}
 use Rattle.tree.specs.Calls.{Call, write, limits, checks, verdict, Outcome, answer_of, checked_by, outcome}
 use Rattle.tree.specs.declared.Anchor.{Anchor}
-use Rattle.tree.specs.declared.Answer.TheVariants.{Whole, Wrong}
+use Rattle.tree.specs.Answer.{Whole, Wrong}
 use Rattle.tree.specs.declared.Refusal.{Refusal}
 use Rattle.tree.proofs.LimitLaws.{Writes}
 use Rattle.tree.proofs.ByteLaws.{length-be}

@@ -13,13 +13,12 @@ use Rattle.words.specs.Bytes.{part}
 use Rattle.tree.specs.Layout.{IsNode, size, offset, label, tag}
 use Rattle.tree.specs.Limits.{first_failing}
 use Rattle.tree.specs.Answer.{is_whole}
-use Rattle.tree.specs.Tests.{failing}
 use Rattle.tree.specs.Calls.{check, first_limits, limits, verdict, rooted}
 use Rattle.tree.specs.declared.Anchor.{Anchor}
 use Rattle.tree.specs.declared.Refusal.{Refusal}
 use Rattle.tree.specs.declared.Refusal.TheVariants.{NotAwaited}
-use Rattle.tree.specs.declared.Answer.{Answer}
-use Rattle.tree.specs.declared.Answer.TheVariants.{Whole, Wrong, Refused}
+use Rattle.tree.specs.Answer.{Answer}
+use Rattle.tree.specs.Answer.{Whole, Wrong, Refused}
 use Rattle.tree.proofs.ByteLaws.{part-sets-apart}
 use Rattle.tree.proofs.LayoutLaws.{few-leaves, entry-apart, entry-fits}
 use Rattle.tree.proofs.LimitLaws.{no-limits, stop, stop-first, skip_first, passed-both, passes, pass, Sound, first-passed, pass_all}
@@ -72,7 +71,7 @@ module _ (a : Anchor) (p : Plan) (card : List ℕ) (u : ℕ) where
   put-nine s e =
       ap (λ (r : Option Refusal). verdict r none)
       (skip_first (first_limits a (length card)) (place_limit a.depth p u ∷ []) (pass-first s)
-      ∙ stop (place_limit a.depth p u) [] (ap (λ (b : Bool). failing (not b)) e))
+      ∙ stop (place_limit a.depth p u) [] (ap not e))
 
   settled-answer : (x : List ℕ) (o : Answer) → (put_settled o a p card u x).answer ≡ o
   settled-answer x Whole = refl

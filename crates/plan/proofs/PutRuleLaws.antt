@@ -7,8 +7,8 @@ use Prim.Native.Nat.{ℕ, ◌+◌, ◌*◌, ◌%◌, ◌^◌, ◌<◌}
 use Rattle.words.proofs.Cases.{equal_or_not}
 use Rattle.tree.specs.Calls.{rooted}
 use Rattle.tree.specs.declared.Anchor.{Anchor}
-use Rattle.tree.specs.declared.Answer.{Answer}
-use Rattle.tree.specs.declared.Answer.TheVariants.{Whole}
+use Rattle.tree.specs.Answer.{Answer}
+use Rattle.tree.specs.Answer.{Whole}
 use Rattle.tree.specs.declared.BlockIndex.{BlockIndex}
 use Rattle.tree.proofs.LimitLaws.{first-passed}
 use Rattle.plan.specs.Places.{fill, full}

@@ -11,7 +11,7 @@ use lib.Seq.{length-sets}
 use Rattle.words.proofs.Cases.{equal_or_not}
 use Rattle.tree.specs.Layout.{size, offset}
 use Rattle.tree.specs.declared.Anchor.{Anchor}
-use Rattle.tree.specs.declared.Answer.TheVariants.{Whole}
+use Rattle.tree.specs.Answer.{Whole}
 use Rattle.tree.proofs.LimitLaws.{Sound}
 use Rattle.plan.specs.Places.{plan_nodes, filled_at, fill, full}
 use Rattle.plan.specs.Split.{Given, put_answer}

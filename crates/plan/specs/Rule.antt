@@ -12,7 +12,7 @@ use Rattle.tree.specs.Calls.{write, first_limits, tagged, rooted, outcome}
 use Rattle.tree.specs.declared.Anchor.{Anchor}
 use Rattle.tree.specs.declared.Refusal.{Refusal}
 use Rattle.tree.specs.declared.Refusal.TheVariants.{NotAwaited}
-use Rattle.tree.specs.declared.Answer.TheVariants.{Whole, Refused}
+use Rattle.tree.specs.Answer.{Whole, Refused}
 use Rattle.plan.specs.Split.{Given, Planned, planned, joined, Put, put}
 use Rattle.plan.specs.declared.Plan.{Plan}
 

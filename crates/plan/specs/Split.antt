@@ -10,8 +10,8 @@ use Rattle.tree.specs.Ranges.{listed}
 use Rattle.tree.specs.Limits.{Limit, first_failing}
 use Rattle.tree.specs.Calls.{write, first_limits, verdict, Outcome, Reports, rooted, answer_of, checked_by, settled}
 use Rattle.tree.specs.declared.Anchor.{Anchor}
-use Rattle.tree.specs.declared.Answer.{Answer}
-use Rattle.tree.specs.declared.Answer.TheVariants.{Whole, Wrong, Refused}
+use Rattle.tree.specs.Answer.{Answer}
+use Rattle.tree.specs.Answer.{Whole, Wrong, Refused}
 use Rattle.tree.specs.declared.Refusal.TheVariants.{NotAwaited}
 use Rattle.plan.specs.Places.{plan_nodes, awaits, fill, full}
 use Rattle.plan.specs.declared.Plan.{Plan}

@@ -2,12 +2,12 @@
 // calls, a plan and a put.
 #![tactic(auto)]
 
-ghost use Rattle.std.specs.Prelude.{◌≡◌, true, ◌^◌, ◌≤◌, ◌<◌};
-ghost use Rattle.tree.specs.Tests.{passing};
+ghost use Rattle.std.specs.Prelude.{◌≡◌, true, [], ◌∷◌, ◌^◌, ◌≤◌, ◌<◌, ◌*◌, unwrap_or, IfSome};
+ghost use Rattle.tree.specs.Tests.{tested};
 ghost use Rattle.plan.specs.Places.{place_in, plan_nodes, awaits, fill, full};
+ghost use Rattle.plan.specs.Split.{place_limit};
 
-use tree::limits::Test;
-use tree::{BlockIndex, Node, Nonce, layout, path};
+use tree::{BlockIndex, Depth, Node, Nonce, Path, Refusal};
 
 // What is kept between a plan and its last tag, and trusted like the anchor: the block's number, the root nonce that the last tag brings,
 // and a bit for each place, set where its tag was put.
@@ -26,62 +26,62 @@ fn bit(place: u64) -> u64
     1 << place
 }
 
-// The place of a node among the nodes of a plan; where it is none of them, how many there are.
-fn place(depth: u64, index: BlockIndex, node: Node) -> u64
-    requires depth_bound { depth ≤ 16 }
-    requires index_bound { index.0 < 2 ^ depth }
-    ensures { result ≡ place_in node.0 (plan_nodes depth index.0) }
+// The place of a node among the nodes of a plan, where it is one of them.
+fn place(path: Path, node: Node) -> Option<u64>
+    ensures place { unwrap_or result (2 * path.depth.levels) ≡ place_in node.0 (plan_nodes path.depth.levels path.index.0) }
+    ensures below { IfSome result (λ place. place < 2 * path.depth.levels) }
 {
-    let mut level: u64 = 0;
-    while level < depth {
-        let parent = path::node(depth, index, level);
-        if node.0 / 2 == parent.0 {
-            return 2 * level + node.0 % 2;
+    for level in 0..path.depth.levels {
+        if node.0 / 2 == path.node(level).0 {
+            return Some(2 * level + node.0 % 2);
         }
-        level += 1;
     }
-    2 * depth
+    None
 }
 
-// 9: the plan waits for the tag of that node.
-pub fn awaits(depth: u64, plan: Plan, node: Node) -> Test
-    requires { depth ≤ 16 }
-    ensures { result ≡ passing (awaits depth plan node.0) }
-{
-    let index = plan.index;
-    if index.0 < layout::leaves(depth) {
-        let place = place(depth, index, node);
-        if place < 2 * depth {
-            if (plan.filled >> place) % 2 == 0 {
-                return Test::Passed;
+impl Plan {
+    // 9: the plan waits for the tag of that node.
+    pub fn awaits(self, depth: Depth, node: Node) -> Result<(), Refusal>
+        ensures { result ≡ tested (place_limit depth.levels self node.0 ∷ []) }
+    {
+        if self.index.0 < depth.leaves() {
+            let path = Path {
+                depth,
+                index: self.index,
+            };
+            if let Some(place) = place(path, node) {
+                if (self.filled >> place) % 2 == 0 {
+                    return Ok(());
+                }
             }
         }
+        Err(Refusal::NotAwaited)
     }
-    Test::Failed
-}
 
-// The plan with one place more filled.
-pub fn fill(depth: u64, plan: Plan, node: Node) -> Plan
-    requires depth_bound { depth ≤ 16 }
-    requires node_value { awaits depth plan node.0 ≡ true }
-    ensures { result ≡ fill depth plan node.0 }
-{
-    let index = plan.index;
-    let root = plan.root;
-    let place = place(depth, index, node);
-    Plan {
-        index: index,
-        root: root,
-        filled: plan.filled + bit(place),
+    // The plan with one place more filled.
+    pub fn fill(self, depth: Depth, node: Node) -> Plan
+        requires { awaits depth.levels self node.0 ≡ true }
+        ensures { result ≡ fill depth.levels self node.0 }
+    {
+        let path = Path {
+            depth,
+            index: self.index,
+        };
+        match place(path, node) {
+            Some(place) => Plan {
+                filled: self.filled + bit(place),
+                ..self
+            },
+            None => self,
+        }
     }
-}
 
-// Whether every place is filled.
-pub fn full(depth: u64, plan: Plan) -> bool
-    requires depth_bound { depth ≤ 16 }
-    requires index_bound { plan.index.0 < 2 ^ depth }
-    ensures { result ≡ full depth plan }
-{
-    let places = bit(2 * depth);
-    plan.filled % places == places - 1
+    // Whether every place is filled. The bound is asked, since the plan and the depth come from two places, and C gives a plan any number.
+    pub fn is_full(self, depth: Depth) -> bool
+        requires { self.index.0 < 2 ^ depth.levels }
+        ensures { result ≡ full depth.levels self }
+    {
+        let places = bit(2 * depth.levels);
+        self.filled % places == places - 1
+    }
 }

@@ -4,13 +4,14 @@ ghost use Rattle.cipher.specs.Cipher.{encrypt_of};
 ghost use Rattle.cipher.specs.KeyExpansion.{key_expansion};
 ghost use Rattle.probe.specs.Told.{repeated};
 
+use cipher::Aes128;
+use words::{Block, Packed};
+
 pub fn expand(key: &[u8], out: &mut [u8])
     requires { (length key.now ≡ 16) × (length out.old ≡ 176) }
     ensures { out.new ≡ key_expansion key.now }
 {
-    let sbox = tables::sbox::table();
-    let schedule = cipher::key::expand(&sbox, probe::key_of(key));
-    out.copy_from_slice(&schedule);
+    out.copy_from_slice(&cipher::key::expand(probe::key_of(key)));
 }
 
 pub fn encrypt(key: &[u8], block: &[u8], out: &mut [u8])
@@ -25,14 +26,10 @@ pub fn encrypt_chain(key: &[u8], block: &mut [u8], count: u64)
     requires { (length key.now ≡ 16) × (length block.old ≡ 16) }
     ensures { block.new ≡ repeated (encrypt_of key.now) block.old count }
 {
-    let sbox = tables::sbox::table();
-    let schedule = cipher::key::expand(&sbox, probe::key_of(key));
-    let table = tables::round_table::table();
-    let mut x = words::block_at(block, 0);
-    let mut i: u64 = 0;
-    while i < count {
-        i += 1;
-        x = cipher::encrypt(&table, &schedule, x);
+    let aes = Aes128::new(probe::key_of(key));
+    let mut x = Block::at(block, 0);
+    for _ in 0..count {
+        x = aes.encrypt(x);
     }
-    words::put_block(block, 0, x);
+    x.put(block, 0);
 }

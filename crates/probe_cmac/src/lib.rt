@@ -1,5 +1,5 @@
-// CMAC for tests and benchmarks in other languages. A slice passes as a pointer and a length. Each call answers 0, or 1 where a length is
-// not the one wanted, and then it changes nothing.
+// CMAC for tests and benchmarks in other languages. A slice passes as a pointer and a length. Each call answers a number, since C calls it:
+// 0, or 1 where a length is not the one wanted, and then it changes nothing.
 #![tactic(auto)]
 
 mod work;
@@ -15,10 +15,7 @@ pub extern "C" fn probe_subkeys(key: &[u8], out: &mut [u8]) -> u64
     ensures { Told (sized key.now 16 && sized out.old 32)
         (subkeys_of key.now) out.old out.new result }
 {
-    if key.len() != 16 {
-        return 1;
-    }
-    if out.len() != 32 {
+    if key.len() != 16 || out.len() != 32 {
         return 1;
     }
     work::subkeys(key, out);
@@ -31,10 +28,7 @@ pub extern "C" fn probe_tag(key: &[u8], message: &[u8], out: &mut [u8]) -> u64
     ensures { Told (sized key.now 16 && sized out.old 16)
         (cmac_of key.now message.now) out.old out.new result }
 {
-    if key.len() != 16 {
-        return 1;
-    }
-    if out.len() != 16 {
+    if key.len() != 16 || out.len() != 16 {
         return 1;
     }
     work::tag(key, message, out);
@@ -47,10 +41,7 @@ pub extern "C" fn probe_tag_chain(key: &[u8], message: &mut [u8], count: u64) ->
     ensures { Told (sized key.now 16 && leb 16 (length message.old))
         (repeated (retagged key.now) message.old count) message.old message.new result }
 {
-    if key.len() != 16 {
-        return 1;
-    }
-    if message.len() < 16 {
+    if key.len() != 16 || message.len() < 16 {
         return 1;
     }
     work::tag_chain(key, message, count);

@@ -1,5 +1,6 @@
 // The calls' counts, for tests in other languages. A slice passes as a pointer and a length. Each function makes the call with the anchor's
-// three parts and answers the count; a key that has not 16 bytes gets 0, and then it changes nothing; so do messages that have not 656.
+// three parts and answers its count, a bare number since C calls it; a key that has not 16 bytes gets 0, and then it changes nothing; so do
+// messages that have not 656.
 #![tactic(auto)]
 
 ghost use Rattle.std.specs.Prelude.{◌≡◌, [], length};
@@ -27,8 +28,7 @@ pub extern "C" fn probe_count_read(
     if key.len() != 16 {
         return 0;
     }
-    let report = calls::read(anchor(key, depth, root), card, BlockIndex(index), buffer);
-    report.count
+    calls::read(anchor(key, depth, root), card, BlockIndex(index), buffer).count
 }
 
 // A write's.
@@ -48,14 +48,14 @@ pub extern "C" fn probe_count_write(
     if key.len() != 16 {
         return 0;
     }
-    let reply = calls::write(
+    calls::write(
         anchor(key, depth, root),
         card,
         BlockIndex(index),
         block,
         ranges,
-    );
-    reply.count
+    )
+    .count
 }
 
 // A check's.
@@ -66,8 +66,7 @@ pub extern "C" fn probe_count_check(key: &[u8], depth: u64, root: u64, card: &[u
     if key.len() != 16 {
         return 0;
     }
-    let report = calls::check(anchor(key, depth, root), card);
-    report.count
+    calls::check(anchor(key, depth, root), card).count
 }
 
 // A wipe's.
@@ -78,8 +77,7 @@ pub extern "C" fn probe_count_wipe(key: &[u8], depth: u64, root: u64, card: &mut
     if key.len() != 16 {
         return 0;
     }
-    let reply = calls::wipe(anchor(key, depth, root), card);
-    reply.count
+    calls::wipe(anchor(key, depth, root), card).count
 }
 
 // A plan's. A buffer for its messages that has not their room gets 0 too.
@@ -100,18 +98,18 @@ pub extern "C" fn probe_count_plan(
     if key.len() != 16 {
         return 0;
     }
-    if messages.len() != MESSAGE_ROOM {
+    let Some(messages) = messages.as_mut_array::<MESSAGE_ROOM>() else {
         return 0;
-    }
-    let planned = split::plan_in(
+    };
+    split::plan(
         anchor(key, depth, root),
         card,
         BlockIndex(index),
         block,
         ranges,
         messages,
-    );
-    planned.count
+    )
+    .count
 }
 
 // The anchor of its parts.
@@ -119,10 +117,9 @@ fn anchor(key: &[u8], depth: u64, root: u64) -> Anchor
     requires { length key.now ≡ 16 }
     ensures { result ≡ anchor_of key.now depth root }
 {
-    let key = probe::key_of(key);
     Anchor {
-        key: key,
-        depth: depth,
+        key: probe::key_of(key),
+        depth,
         root: Nonce(root),
     }
 }

@@ -11,8 +11,8 @@ use Rattle.words.specs.Bytes.{same}
 use Rattle.words.proofs.Same.{same-is, same_refl}
 use Rattle.tree.specs.Nodes.{path_node}
 use Rattle.tree.specs.Calls.{Call, read, write, check, wipe, checks, Outcome, answer_of, done}
-use Rattle.tree.specs.declared.Answer.{Answer}
-use Rattle.tree.specs.declared.Answer.TheVariants.{Whole, Wrong, Refused}
+use Rattle.tree.specs.Answer.{Answer}
+use Rattle.tree.specs.Answer.{Whole, Wrong, Refused}
 use Rattle.tree.proofs.LimitLaws.{Passes}
 use Rattle.tree.proofs.CallLaws.{read-checks, write-checks, check-checks, accepted, outcome-answer, outcome-done}
 use Rattle.replay.specs.Run.{Step, call, split, card_of, call_of, told, State, next, after}

@@ -5,8 +5,8 @@ use mathlib.Core.Logic.{◌⊎◌, inl, inr, ⊎_elim}
 use Prim.Native.Nat.{ℕ}
 use native.Mathlib.Omega.{arith}
 use Rattle.tree.specs.Calls.{Call, read, write, check, wipe}
-use Rattle.tree.specs.declared.Answer.{Answer}
-use Rattle.tree.specs.declared.Answer.TheVariants.{Whole, Wrong, Refused}
+use Rattle.tree.specs.Answer.{Answer}
+use Rattle.tree.specs.Answer.{Whole, Wrong, Refused}
 use Rattle.replay.specs.Places.{Place}
 use Rattle.replay.specs.Run.{Step, call_of, Store, State, result, next, after}
 use Rattle.replay.specs.Claim.{AcceptedWipe, known, Everywhere, Unwiped}

@@ -8,8 +8,8 @@ use native.Mathlib.Omega.{arith}
 use lib.ListN.{length}
 use Rattle.tree.specs.Answer.{is_whole}
 use Rattle.tree.specs.Calls.{Call, write, wipe, renews, answer_of}
-use Rattle.tree.specs.declared.Answer.{Answer}
-use Rattle.tree.specs.declared.Answer.TheVariants.{Whole}
+use Rattle.tree.specs.Answer.{Answer}
+use Rattle.tree.specs.Answer.{Whole}
 use Rattle.replay.specs.Run.{Step, card_of, call_of, Store, State, result, next, after, renewals}
 use Rattle.replay.specs.Claim.{Complete, AllComplete}
 use Rattle.replay.proofs.PlaceLaws.{first, later}

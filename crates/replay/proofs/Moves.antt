@@ -12,8 +12,8 @@ use Rattle.tree.specs.Card.{blanked, written}
 use Rattle.tree.specs.Answer.{is_whole}
 use Rattle.tree.specs.Calls.{Call, read, write, check, wipe, renews, tags, tagged, rooted, Outcome, answer_of, done, settled, outcome}
 use Rattle.tree.specs.declared.Anchor.{Anchor}
-use Rattle.tree.specs.declared.Answer.{Answer}
-use Rattle.tree.specs.declared.Answer.TheVariants.{Whole, Wrong, Refused}
+use Rattle.tree.specs.Answer.{Answer}
+use Rattle.tree.specs.Answer.{Whole, Wrong, Refused}
 use Rattle.tree.proofs.CallLaws.{accepted, outcome-answer, outcome-done}
 use Rattle.plan.specs.Places.{full}
 use Rattle.plan.specs.Split.{Given, Planned, no_plan, planned}

@@ -12,7 +12,7 @@ use Rattle.tree.specs.Card.{blanked, written}
 use Rattle.tree.specs.Answer.{is_whole}
 use Rattle.tree.specs.Calls.{Call, read, write, check, wipe, tags, tagged, Outcome, answer_of, done}
 use Rattle.tree.specs.declared.Anchor.{Anchor}
-use Rattle.tree.specs.declared.Answer.TheVariants.{Whole}
+use Rattle.tree.specs.Answer.{Whole}
 use Rattle.tree.proofs.LimitLaws.{Passes}
 use Rattle.tree.proofs.NodeLaws.{pairs-child, child-pairs, child-node, among-node}
 use Rattle.tree.proofs.WriteLaws.{blanked-message, written-message}

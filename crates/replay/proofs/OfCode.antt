@@ -7,11 +7,12 @@ use native.Mathlib.Omega.{arith}
 use lib.ListN.{length, drop}
 use Rattle.cmac.specs.Cmac.{cmac_of}
 use Rattle.tree.specs.Layout.{IsCard}
-use Rattle.tree.specs.Answer.{is_whole}
+use Rattle.std.specs.Result.{result_unwrap_or}
+use Rattle.tree.specs.Answer.{is_whole, answer_in, limited_in}
 use Rattle.tree.specs.Calls.{read, write, check, wipe, outcome, format}
 use Rattle.tree.specs.declared.Anchor.{Anchor}
-use Rattle.tree.specs.declared.Answer.{Answer}
-use Rattle.tree.specs.declared.Answer.TheVariants.{Whole}
+use Rattle.tree.specs.Answer.{Answer}
+use Rattle.tree.specs.Answer.{Whole}
 use Rattle.tree.proofs.CallLaws.{format-in}
 use Rattle.cmac.proofs.Laws.{length-cmac}
 use Rattle.plan.specs.Split.{Planned, planned, no_plan, joined, put_answer}
@@ -36,30 +37,38 @@ use Rattle.replay.proofs.PlaceLaws.{first, later, no_place, at_places}
 use Rattle.replay.proofs.Anchors.{next-key}
 use Rattle.replay.proofs.Theorem.{demand3, unforged, afresh}
 
--- What a contract says of a call that returned: x is what it was given, r what it answered, e what it left.
+-- What a contract says of a call that returned: x is what it was given, r what it answered, e what it left. Where it answered an error,
+-- the anchor and a put's plan are those that it was given, and a plan is the one that waits for nothing.
 
 pub format-ran : (κs : _) (x : _) (r : _) (e : _) → format-code.Learnt κs x r e
-    → Formatted x.0 x.1.0 x.1.1.0.now r.answer r.anchor e.1.1.0.now
+    → Formatted x.0 x.1.0 x.1.1.0.now (limited_in r)
+    (result_unwrap_or r (record { key = x.0; depth = x.1.0; root = record { 0 = 0 } })) e.1.1.0.now
 format-ran κs x r e learnt = learnt
 
 pub read-ran : (κs : _) (x : _) (r : _) (e : _) → read-code.Learnt κs x r e
     → Meets x.0 (call x.1.0.now (read x.1.1.0.0 x.1.1.1.0.now)
-    (record { answer = r.answer; count = r.count; anchor = x.0; card = x.1.0.now; lent = e.1.1.1.0.now }))
+    (record { answer = answer_in r.value; count = r.count; anchor = x.0; card = x.1.0.now; lent = e.1.1.1.0.now }))
 read-ran κs x r e learnt = learnt
 
 pub write-ran : (κs : _) (x : _) (r : _) (e : _) → write-code.Learnt κs x r e
     → Meets x.0 (call x.1.0.now (write x.1.1.0.0 x.1.1.1.0.now x.1.1.1.1.0.now)
-    (record { answer = r.answer; count = r.count; anchor = r.anchor; card = e.1.0.now; lent = e.1.1.1.1.0.now }))
+    (record {
+      answer = answer_in r.value;
+      count = r.count;
+      anchor = result_unwrap_or r.value x.0;
+      card = e.1.0.now;
+      lent = e.1.1.1.1.0.now;
+    }))
 write-ran κs x r e learnt = learnt
 
 pub check-ran : (κs : _) (x : _) (r : _) (e : _) → check-code.Learnt κs x r e
     → Meets x.0 (call x.1.0.now check
-    (record { answer = r.answer; count = r.count; anchor = x.0; card = x.1.0.now; lent = [] }))
+    (record { answer = answer_in r.value; count = r.count; anchor = x.0; card = x.1.0.now; lent = [] }))
 check-ran κs x r e learnt = learnt
 
 pub wipe-ran : (κs : _) (x : _) (r : _) (e : _) → wipe-code.Learnt κs x r e
     → Meets x.0 (call x.1.0.now wipe
-    (record { answer = r.answer; count = r.count; anchor = r.anchor; card = e.1.0.now; lent = [] }))
+    (record { answer = answer_in r.value; count = r.count; anchor = result_unwrap_or r.value x.0; card = e.1.0.now; lent = [] }))
 wipe-ran κs x r e learnt = learnt
 
 pub plan-ran : (κs : _) (x : _) (r : _) (e : _) → plan-code.Learnt κs x r e
@@ -69,8 +78,8 @@ pub plan-ran : (κs : _) (x : _) (r : _) (e : _) → plan-code.Learnt κs x r e
       block = x.1.1.1.0.now;
       ranges = x.1.1.1.1.0.now;
       buffer = x.1.1.1.1.1.0.now;
-      back = record { answer = r.answer; count = r.count; anchor = x.0; card = e.1.0.now; lent = e.1.1.1.1.0.now };
-      plan = r.plan;
+      back = record { answer = answer_in r.value; count = r.count; anchor = x.0; card = e.1.0.now; lent = e.1.1.1.1.0.now };
+      plan = result_unwrap_or r.value no_plan;
       messages = e.1.1.1.1.1.0.now;
     })
 plan-ran κs x r e learnt = learnt
@@ -78,9 +87,9 @@ plan-ran κs x r e learnt = learnt
 pub put-ran : (κs : _) (x : _) (r : _) (e : _) → put-code.Learnt κs x r e
     → PutsMeet x.0 x.1.0 (record {
       step = record { card = x.1.1.0.now; node = x.1.1.1.0.0; tag = x.1.1.1.1.0 };
-      answer = r.answer;
-      anchor = r.anchor;
-      plan = r.plan;
+      answer = limited_in r;
+      anchor = (result_unwrap_or r (record { anchor = x.0; plan = x.1.0 })).anchor;
+      plan = (result_unwrap_or r (record { anchor = x.0; plan = x.1.0 })).plan;
       card = e.1.1.0.now;
     } ∷ [])
 put-ran κs x r e learnt = (learnt, tt)

@@ -10,7 +10,7 @@ use Rattle.tree.specs.Answer.{is_whole}
 use Rattle.tree.specs.Card.{written}
 use Rattle.tree.specs.Calls.{write, Outcome, answer_of}
 use Rattle.tree.specs.declared.Anchor.{Anchor}
-use Rattle.tree.specs.declared.Answer.TheVariants.{Whole}
+use Rattle.tree.specs.Answer.{Whole}
 use Rattle.plan.specs.Places.{full}
 use Rattle.plan.specs.Split.{Planned, planned}
 use Rattle.plan.specs.Puts.{PutStep, Going, begun, after_all_puts, EachPut, PutUntouched}

@@ -12,7 +12,7 @@ use Rattle.tree.specs.Labels.{message, labels, new_labels}
 use Rattle.tree.specs.Card.{blanked, written}
 use Rattle.tree.specs.Calls.{Call, write, wipe, is_write, answer_of}
 use Rattle.tree.specs.declared.Anchor.{Anchor}
-use Rattle.tree.specs.declared.Answer.TheVariants.{Whole}
+use Rattle.tree.specs.Answer.{Whole}
 use Rattle.tree.proofs.NodeLaws.{Off, Child, child-or-off, off-child, child-node, node-among, among-node}
 use Rattle.tree.proofs.LabelLaws.{message-same, new-off}
 use Rattle.tree.proofs.WriteLaws.{blanked-message, written-message, Clean}

@@ -8,7 +8,7 @@ use Rattle.tree.specs.Nodes.{all_nodes}
 use Rattle.tree.specs.Labels.{message, labels}
 use Rattle.tree.specs.Card.{blanked}
 use Rattle.tree.specs.Calls.{write, wipe, answer_of}
-use Rattle.tree.specs.declared.Answer.TheVariants.{Whole}
+use Rattle.tree.specs.Answer.{Whole}
 use Rattle.tree.proofs.CallLaws.{accepted}
 use Rattle.replay.specs.Array.{zeroed}
 use Rattle.replay.specs.Run.{Step, card_of, State, next, after}

@@ -15,7 +15,7 @@ use Rattle.tree.specs.Nodes.{all_nodes}
 use Rattle.tree.specs.Labels.{message, labels}
 use Rattle.tree.specs.Card.{blanked}
 use Rattle.tree.specs.Calls.{Call, wipe, tagged, format_card, format}
-use Rattle.tree.specs.declared.Answer.{Answer}
+use Rattle.tree.specs.Answer.{Answer}
 use Rattle.tree.proofs.LimitLaws.{Passes}
 use Rattle.tree.proofs.WriteLaws.{clean-blanked}
 use Rattle.tree.proofs.CallLaws.{wipe-accepts, outcome-answer, format-accept}

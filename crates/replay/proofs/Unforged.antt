@@ -13,8 +13,8 @@ use Rattle.tree.specs.Card.{blanked}
 use Rattle.tree.specs.Answer.{is_whole}
 use Rattle.tree.specs.Calls.{Call, read, write, check, wipe, is_write, renews, checks, answer_of}
 use Rattle.tree.specs.declared.Anchor.{Anchor}
-use Rattle.tree.specs.declared.Answer.{Answer}
-use Rattle.tree.specs.declared.Answer.TheVariants.{Whole}
+use Rattle.tree.specs.Answer.{Answer}
+use Rattle.tree.specs.Answer.{Whole}
 use Rattle.tree.proofs.CallLaws.{accepted}
 use Rattle.plan.specs.Places.{plan_nodes, full}
 use Rattle.plan.specs.Split.{Planned, planned}

@@ -6,7 +6,7 @@ use Rattle.tree.specs.Labels.{message, labels}
 use Rattle.tree.specs.Calls
 use Rattle.tree.specs.Calls.{checks, is_write}
 use Rattle.tree.specs.declared.Node.{Node}
-use Rattle.tree.specs.declared.Answer.TheVariants.{Whole, Wrong}
+use Rattle.tree.specs.Answer.{Whole, Wrong}
 use Rattle.plan.specs.Places.{full}
 use Rattle.plan.specs.Split.{Planned, planned}
 use Rattle.plan.specs.Puts.{PutStep, begun, after_all_puts, EachPut, PutUntouched, PutRight}

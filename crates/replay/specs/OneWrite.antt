@@ -2,7 +2,7 @@
 use Rattle.std.specs.Prelude.{ℕ, ◌≡◌}
 use mathlib.Core.List.{List, Memᴰ}
 use Rattle.tree.specs.Calls.{write}
-use Rattle.tree.specs.declared.Answer.TheVariants.{Whole}
+use Rattle.tree.specs.Answer.{Whole}
 use Rattle.plan.specs.Split.{planned}
 use Rattle.plan.specs.Puts.{PutStep, begun, after_all_puts, EachPut, PutUntouched}
 use Rattle.replay.specs.Run.{Step, call, split, State, result, next}

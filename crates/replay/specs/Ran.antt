@@ -5,7 +5,7 @@ use Rattle.cmac.specs.Traced.{subkeys_count, cmac_count}
 use Rattle.tree.specs.Answer.{is_whole}
 use Rattle.tree.specs.Calls.{Call, wipe, Outcome, Gives, Reports, outcome, format}
 use Rattle.tree.specs.declared.Anchor.{Anchor}
-use Rattle.tree.specs.declared.Answer.{Answer}
+use Rattle.tree.specs.Answer.{Answer}
 use Rattle.plan.specs.Split.{planned, joined, Plans, put, Puts}
 use Rattle.plan.specs.Puts.{PutStep}
 use Rattle.plan.specs.declared.Plan.{Plan}

@@ -6,7 +6,7 @@ use Rattle.tree.specs.Nodes.{path_node}
 use Rattle.tree.specs.Labels.{message, blank_labels, written_labels}
 use Rattle.tree.specs.Calls.{Call, read, write, check, wipe, is_write, tagged}
 use Rattle.tree.specs.declared.Anchor.{Anchor}
-use Rattle.tree.specs.declared.Answer.TheVariants.{Whole}
+use Rattle.tree.specs.Answer.{Whole}
 use Rattle.replay.specs.Places.{Place}
 use Rattle.replay.specs.Array.{zeroed}
 use Rattle.plan.specs.Places.{plan_nodes}

@@ -16,15 +16,15 @@ use Rattle.cmac.specs.Context.{subkeys_of}
 use Rattle.cmac.specs.Traced.{chain_traced, subkeys_count, cmac_count}
 use Rattle.cmac.proofs.TraceLaws.{subkeys-erased, cmac-erased, subkeys-trace, chain-trace, cmac-trace, subkeys-count, cmac-count}
 use Rattle.cmac.proofs.TraceLaws.{count-17, count-73}
-use Rattle.tree.specs.Labels.{message, labels}
+use Rattle.tree.specs.Labels.{labels}
 use Rattle.tree.specs.Card.{right, first_wrong}
 use Rattle.tree.specs.Limits.{first_failing}
 use Rattle.tree.specs.Calls.{Call, read, write, check, wipe, checks, tagged, limits, Outcome, total, count_in, answer_of, checked_by, done}
 use Rattle.tree.specs.Calls.{outcome}
 use Rattle.tree.specs.declared.Anchor.{Anchor}
 use Rattle.tree.specs.declared.Node.{Node}
-use Rattle.tree.specs.declared.Answer.{Answer}
-use Rattle.tree.specs.declared.Answer.TheVariants.{Whole, Wrong, Refused}
+use Rattle.tree.specs.Answer.{Answer}
+use Rattle.tree.specs.Answer.{Whole, Wrong, Refused}
 use Rattle.tree.proofs.ByteLaws.{length-be}
 use Rattle.tree.proofs.LayoutLaws.{AllNodes}
 use Rattle.tree.proofs.LimitLaws.{Passes, passed, passes-sound}

@@ -1,5 +1,5 @@
 -- The rules, computed from the definitions.
-use mathlib.Core.Path.{◌≡◌, refl}
+use mathlib.Core.Path.{refl}
 use Rattle.tree.specs.Numbers.{be}
 use Rattle.tree.specs.Layout.{size, offset}
 use Rattle.tree.specs.Nodes.{up_to, path_node, sibling, path, pairs_but_leaf, all_nodes}

@@ -15,8 +15,8 @@ use Rattle.tree.specs.Nodes.{up_to, path_node, sibling, pair, pairs}
 use Rattle.tree.specs.Labels.{labels, written_labels}
 use Rattle.tree.specs.Calls.{write, tagged, total, count_in, count_of, answer_of, outcome}
 use Rattle.tree.specs.declared.Anchor.{Anchor}
-use Rattle.tree.specs.declared.Answer.{Answer}
-use Rattle.tree.specs.declared.Answer.TheVariants.{Whole}
+use Rattle.tree.specs.Answer.{Answer}
+use Rattle.tree.specs.Answer.{Whole}
 use Rattle.tree.proofs.ByteLaws.{length-be}
 use Rattle.tree.proofs.LabelLaws.{labels-sized, new-root, new-sized}
 use Rattle.tree.proofs.LimitLaws.{Writes}

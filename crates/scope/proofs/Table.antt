@@ -17,8 +17,8 @@ use Rattle.tree.specs.Ranges.{ranges_to}
 use Rattle.tree.specs.Limits.{first_failing}
 use Rattle.tree.specs.Calls.{Call, write, limits, Outcome, answer_of, done, outcome, format_card, format}
 use Rattle.tree.specs.declared.Anchor.{Anchor}
-use Rattle.tree.specs.declared.Answer.{Answer}
-use Rattle.tree.specs.declared.Answer.TheVariants.{Whole}
+use Rattle.tree.specs.Answer.{Answer}
+use Rattle.tree.specs.Answer.{Whole}
 use Rattle.tree.proofs.LabelLaws.{labels-below}
 use Rattle.tree.proofs.LimitLaws.{Writes}
 use Rattle.tree.proofs.WriteLaws.{written-length, written-labels, Clean, clean-blanked}

@@ -18,8 +18,8 @@ use Rattle.tree.specs.Limits.{Limit, depth_limit, first_failing}
 use Rattle.tree.specs.Answer.{number_of}
 use Rattle.tree.specs.Calls.{wipe, limits, checks, verdict, Outcome, answer_of, settled, outcome, format_card, format}
 use Rattle.tree.specs.declared.Anchor.{Anchor}
-use Rattle.tree.specs.declared.Answer.{Answer}
-use Rattle.tree.specs.declared.Answer.TheVariants.{Whole, Wrong, Refused}
+use Rattle.tree.specs.Answer.{Answer}
+use Rattle.tree.specs.Answer.{Whole, Wrong, Refused}
 use Rattle.tree.proofs.LimitLaws.{depth-passes, equal_is}
 use Rattle.tree.proofs.BlankLaws.{blind}
 use Rattle.tree.proofs.LabelLaws.{labels-below, blank-inner, blank-leaf}

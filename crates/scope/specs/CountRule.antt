@@ -14,7 +14,7 @@ use Rattle.tree.specs.Enough.{Enough}
 use Rattle.tree.specs.declared.Anchor.{Anchor}
 use Rattle.tree.specs.declared.Node.{Node}
 use Rattle.tree.specs.declared.Refusal.{Refusal}
-use Rattle.tree.specs.declared.Answer.TheVariants.{Whole, Wrong, Refused}
+use Rattle.tree.specs.Answer.{Whole, Wrong, Refused}
 
 -- what RFC 4493 hands to the cipher for the first i blocks of m, in order: X with each block
 abbrev pub inputs : (List ℕ → List ℕ) → List ℕ → ℕ → List (List ℕ)

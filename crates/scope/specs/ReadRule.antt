@@ -8,7 +8,7 @@ use Rattle.tree.specs.Labels.{message, labels}
 use Rattle.tree.specs.Limits.{first_failing}
 use Rattle.tree.specs.Calls.{read, limits, outcome}
 use Rattle.tree.specs.declared.Anchor.{Anchor}
-use Rattle.tree.specs.declared.Answer.TheVariants.{Whole}
+use Rattle.tree.specs.Answer.{Whole}
 
 -- the tags of u_1 to u_n on the card are the CMACs of their messages, with T for the root's nonce and the card's nonces below
 abbrev pub PathRight : Anchor → List ℕ → ℕ → Type 0

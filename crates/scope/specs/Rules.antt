@@ -9,7 +9,7 @@ use Rattle.tree.specs.Limits.{Limit}
 use Rattle.tree.specs.Calls.{read, write, check, limits, checks, format_answer}
 use Rattle.tree.specs.declared.Anchor.{Anchor}
 use Rattle.tree.specs.declared.Node.{Node}
-use Rattle.tree.specs.declared.Answer.TheVariants.{Whole, Wrong}
+use Rattle.tree.specs.Answer.{Whole, Wrong}
 
 abbrev pub numbers : List Limit → List ℕ
 numbers ls = map (λ (l : Limit). refusal_number l.refusal) ls

@@ -6,7 +6,7 @@ use Rattle.tree.specs.Calls.{write, total, count_of}
 use Rattle.tree.specs.declared.Anchor.{Anchor}
 use Rattle.tree.specs.declared.Node.{Node}
 use Rattle.tree.specs.declared.Refusal.{Refusal}
-use Rattle.tree.specs.declared.Answer.TheVariants.{Whole, Wrong, Refused}
+use Rattle.tree.specs.Answer.{Whole, Wrong, Refused}
 use Rattle.plan.specs.Split.{Given, Planned, planned, put_limits}
 use Rattle.plan.specs.Orders.{Rearranged, LikeWrite}
 use Rattle.plan.specs.Rule.{nodes_of, PlanRule, PutRule}

@@ -12,7 +12,7 @@ use Rattle.tree.specs.Limits.{first_failing}
 use Rattle.tree.specs.Calls.{write, limits, Outcome, outcome, format}
 use Rattle.tree.specs.declared.Anchor.{Anchor}
 use Rattle.tree.specs.declared.Refusal.{Refusal}
-use Rattle.tree.specs.declared.Answer.TheVariants.{Whole}
+use Rattle.tree.specs.Answer.{Whole}
 
 abbrev pub range : ℕ → ℕ → Range
 range o l = record { start = o; count = l }

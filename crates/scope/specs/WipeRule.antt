@@ -7,7 +7,7 @@ use Rattle.tree.specs.Labels.{message, labels}
 use Rattle.tree.specs.Answer.{number_of}
 use Rattle.tree.specs.Calls.{wipe, limits, checks, outcome, format}
 use Rattle.tree.specs.declared.Anchor.{Anchor}
-use Rattle.tree.specs.declared.Answer.TheVariants.{Whole}
+use Rattle.tree.specs.Answer.{Whole}
 use Rattle.scope.specs.Rules.{numbers}
 
 -- an empty card of depth n at the nonce t, under a key

@@ -1,11 +1,10 @@
 -- How the code comes to what a plan and a put give: by the first limit that fails, by the first wrong tag, and by what it did.
 use mathlib.Core.Path.{◌≡◌, refl, ap, ap₂, ◌∙◌}
-use mathlib.Core.Bool.{Bool, false, not, cond}
+use mathlib.Core.Bool.{cond}
 use mathlib.Core.List.{List, [], ◌∷◌, ◌++◌, map, Memᴰ}
 use mathlib.Core.Option.{Option, none, some}
 use Prim.Native.Nat.{ℕ, ◌+◌, ◌*◌, ◌^◌, ◌<◌}
-use types.Run.{OneOf, miss}
-use denote.Enum.Declared.{tag_of}
+use Rattle.std.specs.Prelude.{Err}
 use lib.ListN.{length, drop}
 use lib.Seq.{sets}
 use Rattle.cmac.specs.Cmac.{cmac_of}
@@ -16,18 +15,18 @@ use Rattle.tree.specs.Labels.{Labels, labels, written_labels}
 use Rattle.tree.specs.Card.{laid, first_wrong}
 use Rattle.tree.specs.Ranges.{listed}
 use Rattle.tree.specs.Limits.{first_failing}
-use Rattle.tree.specs.Calls.{Call, write, first_limits, limits, checks, verdict, total, rooted, answer_of, checked_by}
+use Rattle.tree.specs.Calls.{Call, write, limits, checks, verdict, total, rooted, answer_of, checked_by}
 use Rattle.tree.specs.declared.Anchor.{Anchor}
 use Rattle.tree.specs.declared.Refusal.{Refusal}
-use Rattle.tree.specs.declared.Refusal.TheVariants.{NotAwaited}
-use Rattle.tree.specs.declared.Answer.{Answer}
-use Rattle.tree.specs.declared.Answer.TheVariants.{Whole, Refused}
-use Rattle.tree.specs.contracts.Answer as T
+use Rattle.tree.specs.declared.Error.{Error}
+use Rattle.tree.specs.declared.Error.TheVariants.{WrongTag, Limit}
+use Rattle.tree.specs.Answer.{Answer, Whole, Wrong, Refused, refused_as}
+use Rattle.tree.specs.Tests.{tested}
 use Rattle.tree.proofs.ByteLaws.{length-be}
-use Rattle.tree.proofs.LimitLaws.{skip_first}
+use Rattle.tree.proofs.LimitLaws.{this_fails}
 use Rattle.tree.proofs.LabelLaws.{labels-sized, new-root, new-sized}
-use Rattle.plan.specs.Places.{plan_nodes, awaits, fill, full}
-use Rattle.plan.specs.Split.{Given, given, plan_settled, planned, no_plan, joined, Plans, place_limit, put_answer, put, Puts}
+use Rattle.plan.specs.Places.{plan_nodes, fill, full}
+use Rattle.plan.specs.Split.{Given, given, plan_settled, planned, no_plan, joined, Plans, put_limits, put_answer, put, Puts}
 use Rattle.plan.specs.declared.Plan.{Plan}
 use Rattle.plan.proofs.PlaceLaws.{plan-node}
 use Rattle.plan.proofs.MessageLaws.{messages-length}
@@ -52,23 +51,14 @@ module _ (a : Anchor) (card : List ℕ) (i : ℕ) (block ranges buffer : List �
   Told x k p left lent messages = Plans once each (planned F a card i block ranges) buffer x k a p left lent messages
 
   -- a limit refuses it
-  refuses : (r : Refusal) → first_failing (limits a card c) ≡ some r → Told (Refused r) 0 no_plan card ranges buffer
+  pub plan-limited : (r : Refusal) → tested (limits a card c) ≡ Err r → Told (Refused r) 0 no_plan card ranges buffer
   unfolding planned answer_of joined
-  refuses r e =
-      rw e (record {
+  plan-limited r e =
+      rw (this_fails (limits a card c) e) (record {
         reports = record { gives = record { answered = refl; anchored = refl; left = refl; filled = refl }; counted = refl };
         planned = refl;
         gave = refl;
       })
-
-  by-limits : (r : Option Refusal) → first_failing (limits a card c) ≡ r → OneOf (1 ∷ 2 ∷ []) (tag_of T.the_type (verdict r none))
-      → Told (verdict r none) 0 no_plan card ranges buffer
-  by-limits none e k = absurd (miss (1 ∷ 2 ∷ []) 0 tt k)
-  by-limits (some r) e k = refuses r e
-
-  pub plan-limited : (x : Answer) (p : Plan) → x ≡ verdict (first_failing (limits a card c)) none → OneOf (1 ∷ 2 ∷ []) (tag_of T.the_type x)
-      → p ≡ no_plan → Told x 0 p card ranges buffer
-  plan-limited x p e k q = rw (e, q) (by-limits (first_failing (limits a card c)) refl (rw e at k))
 
   settles : (x : Answer) → first_failing (limits a card c) ≡ none
       → x ≡ verdict none (first_wrong F a.depth a.root.0 card (checks a.depth c))
@@ -76,25 +66,23 @@ module _ (a : Anchor) (card : List ℕ) (i : ℕ) (block ranges buffer : List �
   unfolding planned answer_of
   settles x e f = rw (e, f)
 
+  -- among the checked nodes no limit fails
+  never : (r : Refusal) (w : Option ℕ) → Refused r ≡ verdict none w → ⊥
+  never r none e = cc
+  never r (some u) e = cc
+
   -- a wrong tag does
-  wrong : (w : Option ℕ) (k : ℕ) → OneOf (1 ∷ 2 ∷ []) (tag_of T.the_type (verdict none w))
-      → planned F a card i block ranges ≡ plan_settled F (verdict none w) a card i block ranges
-      → k ≡ once + total each (checked_by F a card c)
-      → Told (verdict none w) k no_plan card ranges buffer
+  pub plan-wrong : (x : Error) (k : ℕ) → first_failing (limits a card c) ≡ none
+      → refused_as x ≡ verdict none (first_wrong F a.depth a.root.0 card (checks a.depth c))
+      → k ≡ once + total each (checked_by F a card c) → Told (refused_as x) k no_plan card ranges buffer
   unfolding joined
-  wrong none k o e q = absurd (miss (1 ∷ 2 ∷ []) 0 tt o)
-  wrong (some u) k o e q =
-      rw e (record {
+  plan-wrong (WrongTag u) k e v q =
+      rw (settles (Wrong u) e v) (record {
         reports = record { gives = record { answered = refl; anchored = refl; left = refl; filled = refl }; counted = q };
         planned = refl;
         gave = refl;
       })
-
-  pub plan-wrong : (x : Answer) (k : ℕ) (p : Plan) → first_failing (limits a card c) ≡ none
-      → x ≡ verdict none (first_wrong F a.depth a.root.0 card (checks a.depth c)) → OneOf (1 ∷ 2 ∷ []) (tag_of T.the_type x)
-      → k ≡ once + total each (checked_by F a card c) → p ≡ no_plan → Told x k p card ranges buffer
-  plan-wrong x k p e v o q z =
-      rw (v, z) (wrong (first_wrong F a.depth a.root.0 card (checks a.depth c)) k (rw v at o) (rw v at (settles x e v)) q)
+  plan-wrong (Limit r) k e v q = absurd (never r (first_wrong F a.depth a.root.0 card (checks a.depth c)) v)
 
   -- it is whole
   pub plan-whole : (k : ℕ) (p : Plan) (card' lent messages : List ℕ) →
@@ -146,30 +134,11 @@ module _ (n t i : ℕ) (card block : List ℕ) (d : IsCard n card) (inside : i <
 -- The put
 
 module _ (a : Anchor) (p : Plan) (card : List ℕ) (u : ℕ) (x : List ℕ) where
-  -- it is refused
-  put_refused : (r : Refusal) → put_answer a p card u ≡ Refused r → Puts (put a p card u x) (Refused r) a p card
-  unfolding put
-  put_refused r e = rw e (record { answered = refl; anchored = refl; planned = refl; left = refl })
-
-  by_answer : (r : Option Refusal) → put_answer a p card u ≡ verdict r none → OneOf (1 ∷ 2 ∷ []) (tag_of T.the_type (verdict r none))
-      → Puts (put a p card u x) (verdict r none) a p card
-  by_answer none e k = absurd (miss (1 ∷ 2 ∷ []) 0 tt k)
-  by_answer (some r) e k = put_refused r e
-
-  pub put-limited : (o : Answer) → o ≡ put_answer a p card u → OneOf (1 ∷ 2 ∷ []) (tag_of T.the_type o) → Puts (put a p card u x) o a p card
-  unfolding put_answer
-  put-limited o e k =
-      rw e (by_answer (first_failing (first_limits a (length card) ++ (place_limit a.depth p u ∷ []))) refl (rw e at k))
-
-  -- by the plan
-  pub not-awaited : first_failing (first_limits a (length card)) ≡ none → awaits a.depth p u ≡ false
-      → Puts (put a p card u x) (Refused NotAwaited) a p card
-  unfolding put_answer first_failing
-  not-awaited e f =
-      put_refused NotAwaited
-      (ap (λ (r : Option Refusal). verdict r none)
-      (skip_first (first_limits a (length card)) (place_limit a.depth p u ∷ []) e
-      ∙ ap (λ (b : Bool). cond (not b) (some NotAwaited) none) f))
+  -- a limit refuses it
+  pub put-limited : (r : Refusal) → tested (put_limits a p card u) ≡ Err r → Puts (put a p card u x) (Refused r) a p card
+  unfolding put put_answer
+  put-limited r e =
+      rw (this_fails (put_limits a p card u) e) (record { answered = refl; anchored = refl; planned = refl; left = refl })
 
   -- it is whole
   pub put_whole : (b : Anchor) (q : Plan) (card' : List ℕ) → put_answer a p card u ≡ Whole

@@ -1,22 +1,25 @@
-// What a plan and a put do within their limits.
-ghost use Rattle.std.specs.Prelude.{◌≡◌, cond, ◌++◌, map, ◌+◌, ◌*◌, ◌^◌, ◌≤◌, ◌<◌, length, drop};
+// What a plan does within its limits.
+ghost use Rattle.std.specs.Prelude.{◌≡◌, ◌++◌, map, ◌+◌, ◌*◌, ◌^◌, ◌≤◌, ◌<◌, length, drop};
+ghost use Rattle.std.specs.Result.{result_unwrap_or};
 ghost use Rattle.std.proofs.Math.Option.{none};
 ghost use Rattle.cmac.specs.Cmac.{cmac_of};
 ghost use Rattle.cmac.specs.Traced.{subkeys_count, cmac_count};
 ghost use Rattle.tree.specs.Layout.{IsCard};
-ghost use Rattle.tree.specs.Nodes.{path};
+ghost use Rattle.tree.specs.Nodes.{path as path_nodes};
 ghost use Rattle.tree.specs.Labels.{written_labels};
 ghost use Rattle.tree.specs.Card.{laid};
 ghost use Rattle.tree.specs.Ranges.{listed};
 ghost use Rattle.tree.specs.Limits.{first_failing};
-ghost use Rattle.tree.specs.Calls.{write, limits, rooted};
-ghost use Rattle.plan.specs.Places.{plan_nodes, full};
-ghost use Rattle.plan.specs.Split.{given, planned, no_plan, joined, message_room, Plans};
+ghost use Rattle.tree.specs.Answer.{answer_in};
+ghost use Rattle.tree.specs.Calls.{write, limits};
+ghost use Rattle.plan.specs.Places.{plan_nodes};
+ghost use Rattle.plan.specs.Split.{given, planned, no_plan, joined, Plans};
 
-use crate::Planned;
-use card::walk;
+use card::{BlockView, CardView, walk};
+use cmac::Context;
+use cmac::counted::Counted;
 use plan::Plan;
-use tree::{Anchor, Answer, BlockIndex, Nonce, ranges};
+use tree::{Anchor, BlockIndex, Depth, Error, Nonce, Path, ranges};
 
 // Plans the write once its limits are passed: its checks, and then what it lays on the card.
 pub(crate) fn plan(
@@ -25,113 +28,80 @@ pub(crate) fn plan(
     index: BlockIndex,
     block: &[u8],
     ranges: &mut [u8],
-    messages: &mut [u8],
-) -> Planned
-    requires ranges_value { first_failing (limits anchor card.old (write index.0 block.now ranges.old)) ≡ none }
-    requires messages_len { length messages.old ≡ message_room }
+    messages: &mut [u8; 656],
+) -> Counted<Result<Plan, Error>>
+    requires { first_failing (limits anchor card.old (write index.0 block.now ranges.old)) ≡ none }
     ensures { Plans (subkeys_count anchor.key) (cmac_count anchor.key)
         (planned (cmac_of anchor.key) anchor card.old index.0 block.now ranges.old)
-        messages.old result.answer result.count anchor result.plan card.new ranges.new messages.new }
+        messages.old (answer_in result.value) result.count anchor (result_unwrap_or result.value no_plan) card.new ranges.new messages.new }
 {
-    let depth = anchor.depth;
-    let key = anchor.key;
-    let root = anchor.root;
-    let table = cmac::table();
-    let context = cmac::context_of(&table, key);
-    let found = walk::pairs(
-        &table,
-        &context.schedule,
-        &context.subkeys,
-        depth,
-        root,
-        card,
-        index,
-    );
-    let count = context.count + found.count;
-    let answer = found.answer;
-    let Answer::Whole = answer else {
-        return Planned {
-            answer: answer,
-            plan: no_plan(),
-            count: count,
-        };
+    let depth = Depth {
+        levels: anchor.depth,
     };
-    let plan = lay(anchor, card, index, block, ranges, messages);
-    Planned {
-        answer: Answer::Whole,
-        plan: plan,
-        count: count,
+    let seen = BlockView {
+        card: CardView {
+            depth,
+            root: anchor.root,
+            bytes: &*card,
+        },
+        index,
+    };
+    let path = seen.path();
+    let context = Context::new(anchor.key);
+    let found = walk::pairs(&context, &seen);
+    let value = match found.value {
+        Ok(()) => Ok(lay(anchor.root, path, card, block, ranges, messages)),
+        Err(error) => Err(error),
+    };
+    Counted {
+        value,
+        count: context.count + found.count,
     }
 }
 
-// What a refused plan hands out: it waits for nothing.
-pub(crate) fn no_plan() -> Plan
-    ensures { result ≡ no_plan }
-{
-    Plan {
-        index: BlockIndex(65536),
-        root: Nonce(0),
-        filled: 0,
-    }
-}
-
-// Lays the write on the card, without its tags: labels, ranges and messages. The plan waits for every tag.
+// Lays the write on the card, without its tags: labels, ranges and messages. The plan waits for every tag. `IsCard` is asked as in stamp,
+// which writes the card.
 fn lay(
-    anchor: Anchor,
+    last: Nonce,
+    path: Path,
     card: &mut [u8],
-    index: BlockIndex,
     block: &[u8],
     ranges: &mut [u8],
-    messages: &mut [u8],
+    messages: &mut [u8; 656],
 ) -> Plan
-    requires card { IsCard anchor.depth card.old }
-    requires index_bound { index.0 < 2 ^ anchor.depth }
+    requires card { IsCard path.depth.levels card.old }
     requires block_len { length block.now ≡ 64 }
-    requires depth_in_bounds { 16 * anchor.depth ≤ length ranges.old }
-    requires depth_bound { anchor.root.0 + anchor.depth < 2 ^ 64 }
-    requires messages_len { length messages.old ≡ message_room }
+    requires ranges_room { 16 * path.depth.levels ≤ length ranges.old }
+    requires nonces_left { last.0 + path.depth.levels < 2 ^ 64 }
     ensures value { result ≡ record {
-      index = index;
-      root = record { 0 = anchor.root.0 + anchor.depth };
+      index = path.index;
+      root = record { 0 = last.0 + path.depth.levels };
       filled = 0;
     } }
-    ensures card_after { card.new ≡ laid anchor.depth
-        (written_labels anchor.depth anchor.root.0 anchor.root.0 card.old index.0 block.now)
-        (path anchor.depth index.0) card.old }
-    ensures ranges_after { ranges.new ≡ listed anchor.depth index.0 ranges.old }
+    ensures card_after { card.new ≡ laid path.depth.levels
+        (written_labels path.depth.levels last.0 last.0 card.old path.index.0 block.now)
+        (path_nodes path.depth.levels path.index.0) card.old }
+    ensures ranges_after { ranges.new ≡ listed path.depth.levels path.index.0 ranges.old }
     ensures messages_after { messages.new
-        ≡ joined (map (given (written_labels anchor.depth anchor.root.0 anchor.root.0
-        card.old index.0 block.now)) (plan_nodes anchor.depth index.0))
-        ++ drop (34 * anchor.depth + 112) messages.old }
+        ≡ joined (map (given (written_labels path.depth.levels last.0 last.0 card.old path.index.0 block.now))
+        (plan_nodes path.depth.levels path.index.0))
+        ++ drop (34 * path.depth.levels + 112) messages.old }
 {
-    let depth = anchor.depth;
-    let root = anchor.root;
-    stamp::labels(depth, root, card, index, block);
-    ranges::fill(depth, index, ranges);
-    let new = Nonce(root.0 + depth);
-    messages::fill(depth, new, card, index, messages);
+    stamp::labels(path, last, card, block);
+    ranges::fill(path, ranges);
+    let root = Nonce(last.0 + path.depth.levels);
+    let laid = BlockView {
+        card: CardView {
+            depth: path.depth,
+            root,
+            bytes: &*card,
+        },
+        index: path.index,
+    };
+    messages::fill(&laid, messages);
     Plan {
-        index: index,
-        root: new,
+        index: path.index,
+        root,
         filled: 0,
     }
-}
-
-// The anchor behind a put: the new one where every place is filled.
-pub(crate) fn anchor_after(anchor: Anchor, plan: Plan) -> Anchor
-    requires depth_bound { anchor.depth ≤ 16 }
-    requires index_bound { plan.index.0 < 2 ^ anchor.depth }
-    ensures { result ≡ cond (full anchor.depth plan) (rooted anchor plan.root.0) anchor }
-{
-    let depth = anchor.depth;
-    if plan::full(depth, plan) {
-        let key = anchor.key;
-        let root = plan.root;
-        return Anchor {
-            key: key,
-            depth: depth,
-            root: root,
-        };
-    }
-    anchor
 }

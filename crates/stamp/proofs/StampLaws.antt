@@ -15,8 +15,10 @@ use Rattle.words.specs.Bytes.{part}
 use Rattle.words.proofs.Stores.{sets-append}
 use Rattle.words.proofs.Cases.{below_or_not}
 use Rattle.words.specs.Words.{bytes}
-use Rattle.cmac.specs.Traced.{count_under}
+use Rattle.cmac.specs.Context.{count_by}
+use Rattle.cmac.specs.declared.Context.{Context}
 use Rattle.tree.specs.Numbers.{be8}
+use Rattle.tree.specs.declared.path.Path.{Path}
 use Rattle.tree.specs.Layout.{IsNode, IsCard, size, offset, label}
 use Rattle.tree.specs.Nodes.{up_to, path_node, sibling, pair, pairs}
 use Rattle.tree.specs.Labels.{Labels, form, message, labels, nonce_or_block, blank_labels, new_labels}
@@ -54,19 +56,28 @@ module _ (n t : ℕ) (b : List ℕ) (u : ℕ) where
 -- Few calls
 
 -- the message of a label that is no longer than a block takes at most five calls
-few-form : (schedule subkeys x : List ℕ) (p s k : ℕ) → length x ≤ 64 → k ≡ count_under schedule subkeys (form x (bytes 8 p) s) → k ≤ 5
-few-form schedule subkeys x p s k h e =
-    few-calls schedule subkeys (form x (bytes 8 p) s) k e (omega (arith, length-form x (bytes 8 p) s))
+few-form : (c : Context) (x : List ℕ) (p s k : ℕ) → length x ≤ 64 → k ≡ count_by c (form x (bytes 8 p) s) → k ≤ 5
+few-form c x p s k h e = few-calls c (form x (bytes 8 p) s) k e (omega (arith, length-form x (bytes 8 p) s))
 
-pub few-put : (schedule subkeys : List ℕ) (n t : ℕ) (b : List ℕ) (u p s k : ℕ) → length b ≡ 64
-    → k ≡ count_under schedule subkeys (form (nonce_or_block n t b u) (bytes 8 p) s) → k ≤ 5
-few-put schedule subkeys n t b u p s k h e =
-    few-form schedule subkeys (nonce_or_block n t b u) p s k (omega (arith, put-sized n t b u h, size_low n u)) e
+pub few-put : (c : Context) (n t : ℕ) (b : List ℕ) (u p s k : ℕ) → length b ≡ 64
+    → k ≡ count_by c (form (nonce_or_block n t b u) (bytes 8 p) s) → k ≤ 5
+few-put c n t b u p s k h e = few-form c (nonce_or_block n t b u) p s k (omega (arith, put-sized n t b u h, size_low n u)) e
 
-pub few-label : (schedule subkeys : List ℕ) {n : ℕ} {c : List ℕ} (u p s k : ℕ) → IsCard n c → IsNode n u
-    → k ≡ count_under schedule subkeys (form (label n c u) (bytes 8 p) s) → k ≤ 5
-few-label schedule subkeys {n} {c} u p s k d h e =
-    few-form schedule subkeys (label n c u) p s k (omega (arith, length_label n c u d.full h, size_low n u)) e
+pub few-label : (c : Context) {n : ℕ} {card : List ℕ} (u p s k : ℕ) → IsCard n card → IsNode n u
+    → k ≡ count_by c (form (label n card u) (bytes 8 p) s) → k ≤ 5
+few-label c {n} {card} u p s k d h e = few-form c (label n card u) p s k (omega (arith, length_label n card u d.full h, size_low n u)) e
+
+-- Nodes of a path
+
+-- the node of the next level
+pub on_path : (p : Path) (y u : ℕ) → y < p.depth.levels → u ≡ path_node p.depth.levels p.index.0 (y + 1) → IsNode p.depth.levels u
+on_path p y u h e =
+    let n = p.depth.levels in
+    subst (λ (w : ℕ). IsNode n w) (sym e) (path-node n p.index.0 p.on_card (y + 1) (omega arith) (omega arith))
+
+-- a node's sibling
+pub beside : (n u v : ℕ) → v ≡ sibling u → IsNode n u → IsNode n v
+beside n u v e h = twin-node n u v (ap (λ (w : ℕ). w / 2) e ∙ sibling-half u) h
 
 -- One entry
 
@@ -105,27 +116,25 @@ module _ (n : ℕ) (card : List ℕ) (u : ℕ) (d : IsCard n card) (h : IsNode n
 -- Many entries
 
 -- the message of a node of a blank card, whose parent is the root or an inner node
-pub blank-message : (n t y : ℕ) (p : List ℕ) → y < 2 * 2 ^ n - 2 → p ≡ be8 t
-    → let u = y + 1 + 1 in
-    form (nonce_or_block n t (replicate 64 0) u) p (u % 2) ≡ message (blank_labels n t) u
+pub blank-message : (n t u : ℕ) (p : List ℕ) → u < 2 * 2 ^ n → p ≡ be8 t
+    → form (nonce_or_block n t (replicate 64 0) u) p (u % 2) ≡ message (blank_labels n t) u
 unfolding blank_labels
-blank-message n t y p h e =
-    let u = y + 1 + 1 in
+blank-message n t u p h e =
     ap (λ (s : List ℕ). form (nonce_or_block n t (replicate 64 0) u) s (u % 2))
     (e ∙ sym (put-inner n t (replicate 64 0) (u / 2) (omega arith)))
 
 -- a blank card: one node more
-pub blank-more : (F : List ℕ → List ℕ) (n t y : ℕ) (card c p : List ℕ) → y < 2 * 2 ^ n - 2 → p ≡ be8 t
+pub blank-more : (F : List ℕ → List ℕ) (n t y u : ℕ) (card c p : List ℕ) → u ≡ y + 1 + 1 → u < 2 * 2 ^ n → p ≡ be8 t
     → c ≡ stamped F n (blank_labels n t) (up_to y (λ z. (z + 1) ∷ [])) card
-    → let u = y + 1 + 1 in
-    let x = nonce_or_block n t (replicate 64 0) u in
+    → let x = nonce_or_block n t (replicate 64 0) u in
     sets c (offset n u) (x ++ F (form x p (u % 2))) ≡ stamped F n (blank_labels n t) (up_to (y + 1) (λ z. (z + 1) ∷ [])) card
 unfolding stamped put_each blank_labels
-blank-more F n t y card c p h e q =
-    let u = y + 1 + 1 in
+blank-more F n t y u card c p d h e q =
     let x = nonce_or_block n t (replicate 64 0) u in
-    ap₂ (λ (l m : List ℕ). sets l (offset n u) (x ++ F m)) q (blank-message n t y p h e)
-    ∙ sym (stamped-more F n (blank_labels n t) y (λ z. (z + 1) ∷ []) card)
+    let L = blank_labels n t in
+    ap₂ (λ (l m : List ℕ). sets l (offset n u) (x ++ F m)) q (blank-message n t u p h e)
+    ∙ ap (λ (w : ℕ). stamp F n L (stamped F n L (up_to y (λ z. (z + 1) ∷ [])) card) w) d
+    ∙ sym (stamped-more F n L y (λ z. (z + 1) ∷ []) card)
 
 -- A write: level y + 1, its node u on the path, and u's sibling v
 
@@ -183,19 +192,19 @@ module _ (n i : ℕ) (inside : i < 2 ^ n) (y u v : ℕ) (h : y < n) (on : u ≡ 
     abbrev N : Labels
     N = new_labels n (new - n) i b M
 
-    pub u-label : nonce_or_block n (new - (y + 1)) b u ≡ new_labels n (new - n) i b M u
+    pub u-label : nonce_or_block n (new - y - 1) b u ≡ new_labels n (new - n) i b M u
     u-label =
         let g : y + 1 ≤ n = omega arith in
         ⊎_elim
         (λ (e : y + 1 ≡ n).
         let q : u ≡ 2 ^ n + i = on ∙ ap (path_node n i) e ∙ path-leaf n i inside in
-        put-leaf n (new - (y + 1)) b u (omega arith) ∙ sym (ap N q ∙ new-leaf n (new - n) i b inside M))
+        put-leaf n (new - y - 1) b u (omega arith) ∙ sym (ap N q ∙ new-leaf n (new - n) i b inside M))
         (λ (l : y + 1 < n).
         let k = path-level n i inside (y + 1) (omega arith) in
         let p : 2 ^ suc (y + 1) ≤ 2 ^ n = pow_mono l in
         let q = pow-suc 2 (y + 1) in
-        let e : new - n + n - (y + 1) ≡ new - (y + 1) = omega arith in
-        put-inner n (new - (y + 1)) b u (omega (arith, k)) ∙ sym (ap N on ∙ new-path n (new - n) i b inside M (y + 1) l ∙ ap be8 e))
+        let e : new - n + n - (y + 1) ≡ new - y - 1 = omega arith in
+        put-inner n (new - y - 1) b u (omega (arith, k)) ∙ sym (ap N on ∙ new-path n (new - n) i b inside M (y + 1) l ∙ ap be8 e))
         (eq-or-lt_of_le g)
 
     parent-label : (w : ℕ) → w / 2 ≡ path_node n i y → be8 (new - y) ≡ new_labels n (new - n) i b M (w / 2)
@@ -221,16 +230,16 @@ module _ (n i : ℕ) (inside : i < 2 ^ n) (y u v : ℕ) (h : y < n) (on : u ≡ 
     -- the card with both entries, and their messages: c has the levels above, c1 the entry of u too
     pub record Pair (p c1 : List ℕ) : Type 0 where
       pub put : sets c1 (offset n v + size n v) (F (form (label n c1 v) p (v % 2))) ≡ stamped F n L (up_to (y + 1) (pair n i)) card
-      pub own : form (nonce_or_block n (new - (y + 1)) b u) p (u % 2) ≡ message L (path_node n i (y + 1))
+      pub own : form (nonce_or_block n (new - y - 1) b u) p (u % 2) ≡ message L (path_node n i (y + 1))
       pub other : form (label n c1 v) p (v % 2) ≡ message L (sibling (path_node n i (y + 1)))
 
     pub write-more : (p c c1 : List ℕ) → p ≡ be8 (new - y) → c ≡ stamped F n L (up_to y (pair n i)) card
-        → let x = nonce_or_block n (new - (y + 1)) b u in
+        → let x = nonce_or_block n (new - y - 1) b u in
         c1 ≡ sets c (offset n u) (x ++ F (form x p (u % 2))) → Pair p c1
     unfolding stamped put_each
     write-more p c c1 q e e1 =
         let c0 = stamped F n L (up_to y (pair n i)) card in
-        let x = nonce_or_block n (new - (y + 1)) b u in
+        let x = nonce_or_block n (new - y - 1) b u in
         let M = labels n r card in
         let pu : p ≡ L (u / 2) = q ∙ parent-label new b low M u u-parent in
         let pv : p ≡ L (v / 2) = q ∙ parent-label new b low M v (v-half ∙ u-parent) in

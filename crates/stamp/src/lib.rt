@@ -1,206 +1,146 @@
-// Labels and tags put on the card. What puts tags answers the count of the cipher's calls for them.
+// Labels and tags put on the card. What puts tags answers the count of the cipher's calls for them. `IsCard` is asked of each card that is
+// written: a struct that holds a `&mut [u8]` with that fact was tried, and took two more clauses for each method, on its depth and on the
+// reference staying, to save one.
 #![tactic(auto)]
 
 ghost use Rattle.std.specs.Prelude.{◌≡◌, ◌++◌, map, ℕ, ◌+◌, ◌%◌, ◌^◌, ◌<◌, length};
 ghost use Rattle.std.proofs.lemmas.List.Edits.{sets};
 ghost use Rattle.words.specs.Words.{bytes};
-ghost use Rattle.cmac.specs.Context.{IsTable, tag_under};
-ghost use Rattle.cmac.specs.Traced.{count_under};
-ghost use Rattle.tree.specs.Layout.{IsNode, IsCard, size, offset, label};
-ghost use Rattle.tree.specs.Nodes.{path, pairs, all_nodes};
+ghost use Rattle.cmac.specs.Context.{tag_by, count_by};
+ghost use Rattle.tree.specs.Layout.{IsCard, size, offset, label};
+ghost use Rattle.tree.specs.Nodes.{path as path_nodes, pairs, all_nodes};
 ghost use Rattle.tree.specs.Labels.{form, message, nonce_or_block, blank_labels, written_labels};
 ghost use Rattle.tree.specs.Card.{laid, blanked, written};
 ghost use Rattle.tree.specs.Calls.{total};
 
 use card::tag;
-use tree::{BlockIndex, Node, Nonce, layout, numbers, path};
+use cmac::Context;
+use tree::{Depth, Entry, Node, Nonce, Path, numbers};
+use words::Packed;
 
 // Puts the label of a node: the nonce where it is an inner node, the block where it is a leaf.
-fn put_label(depth: u64, card: &mut [u8], node: Node, nonce: Nonce, block: &[u8])
-    requires card { IsCard depth card.old }
-    requires node { IsNode depth node.0 }
+fn put_label(entry: Entry, card: &mut [u8], nonce: Nonce, block: &[u8])
+    requires card { IsCard entry.depth.levels card.old }
     requires block_len { length block.now ≡ 64 }
-    ensures { card.new
-        ≡ sets card.old (offset depth node.0) (nonce_or_block depth nonce.0 block.now node.0) }
+    ensures { card.new ≡ sets card.old (offset entry.depth.levels entry.node.0)
+        (nonce_or_block entry.depth.levels nonce.0 block.now entry.node.0) }
 {
-    let start = layout::offset(depth, node);
-    if node.0 < layout::leaves(depth) {
-        words::put_double_word(card, start, numbers::be8(nonce.0));
+    let start = entry.offset();
+    if entry.node.0 < entry.depth.leaves() {
+        numbers::be(nonce.0).put(card, start);
     } else {
         words::put(card, start, block);
     }
 }
 
 // Puts the tag of a node, for its label on the card and its parent's label.
-fn put_tag<'a>(
-    table: &[u8; 2048],
-    schedule: &'a [u8; 176],
-    subkeys: &'a [u8; 32],
-    depth: u64,
-    card: &mut [u8],
-    node: Node,
-    parent: u64,
-) -> u64
-    requires table { IsTable table.now }
-    requires card { IsCard depth card.old }
-    requires node { IsNode depth node.0 }
+fn put_tag(context: &Context, entry: Entry, card: &mut [u8], parent: u64) -> u64
+    requires { IsCard entry.depth.levels card.old }
     ensures card_after { card.new
-        ≡ sets card.old (offset depth node.0 + size depth node.0)
-        (tag_under schedule.now subkeys.now
-        (form (label depth card.old node.0) (bytes 8 parent) (node.0 % 2))) }
-    ensures value { result ≡ count_under schedule.now subkeys.now
-        (form (label depth card.old node.0) (bytes 8 parent) (node.0 % 2)) }
+        ≡ sets card.old (offset entry.depth.levels entry.node.0 + size entry.depth.levels entry.node.0)
+        (tag_by context.now (form (label entry.depth.levels card.old entry.node.0) (bytes 8 parent) (entry.node.0 % 2))) }
+    ensures value { result
+        ≡ count_by context.now (form (label entry.depth.levels card.old entry.node.0) (bytes 8 parent) (entry.node.0 % 2)) }
 {
-    let u = node.0;
-    let start = layout::offset(depth, node);
-    let middle = start + layout::size(depth, node);
+    let start = entry.offset();
+    let middle = start + entry.size();
     let made = tag::of(
-        table,
-        schedule,
-        subkeys,
+        context,
         &card[start..middle],
         parent,
-        (u % 2) as u8,
+        (entry.node.0 % 2) as u8,
     );
-    words::put_block(card, middle, made.block);
+    made.value.put(card, middle);
     made.count
 }
 
 // Puts both.
-fn put_entry<'a>(
-    table: &[u8; 2048],
-    schedule: &'a [u8; 176],
-    subkeys: &'a [u8; 32],
-    depth: u64,
+fn put_entry(
+    context: &Context,
+    entry: Entry,
     card: &mut [u8],
-    node: Node,
     nonce: Nonce,
     block: &[u8],
     parent: u64,
 ) -> u64
-    requires table { IsTable table.now }
-    requires card { IsCard depth card.old }
-    requires node { IsNode depth node.0 }
+    requires card { IsCard entry.depth.levels card.old }
     requires block_len { length block.now ≡ 64 }
     ensures card_after { card.new
-        ≡ sets card.old (offset depth node.0)
-        (nonce_or_block depth nonce.0 block.now node.0
-        ++ tag_under schedule.now subkeys.now
-        (form (nonce_or_block depth nonce.0 block.now node.0) (bytes 8 parent) (node.0 % 2))) }
-    ensures value { result ≡ count_under schedule.now subkeys.now
-        (form (nonce_or_block depth nonce.0 block.now node.0) (bytes 8 parent) (node.0 % 2)) }
+        ≡ sets card.old (offset entry.depth.levels entry.node.0)
+        (nonce_or_block entry.depth.levels nonce.0 block.now entry.node.0
+        ++ tag_by context.now
+        (form (nonce_or_block entry.depth.levels nonce.0 block.now entry.node.0) (bytes 8 parent) (entry.node.0 % 2))) }
+    ensures value { result ≡ count_by context.now
+        (form (nonce_or_block entry.depth.levels nonce.0 block.now entry.node.0) (bytes 8 parent) (entry.node.0 % 2)) }
 {
-    put_label(depth, card, node, nonce, block);
-    put_tag(table, schedule, subkeys, depth, card, node, parent)
+    put_label(entry, card, nonce, block);
+    put_tag(context, entry, card, parent)
 }
 
 // Every entry anew: all nonces the same, all blocks zero.
-pub fn blank<'a>(
-    table: &[u8; 2048],
-    schedule: &'a [u8; 176],
-    subkeys: &'a [u8; 32],
-    depth: u64,
-    nonce: Nonce,
-    card: &mut [u8],
-) -> u64
-    requires table { IsTable table.now }
-    requires card { IsCard depth card.old }
-    ensures card_after { card.new
-        ≡ blanked (tag_under schedule.now subkeys.now) depth nonce.0 card.old }
-    ensures value { result ≡ total (count_under schedule.now subkeys.now)
-        (map (message (blank_labels depth nonce.0)) (all_nodes depth)) }
+pub fn blank(context: &Context, depth: Depth, nonce: Nonce, card: &mut [u8]) -> u64
+    requires { IsCard depth.levels card.old }
+    ensures card_after { card.new ≡ blanked (tag_by context.now) depth.levels nonce.0 card.old }
+    ensures value { result ≡ total (count_by context.now)
+        (map (message (blank_labels depth.levels nonce.0)) (all_nodes depth.levels)) }
 {
     let zero = [0u8; 64];
-    let parent = numbers::be8(nonce.0);
-    let nodes = 2 * layout::leaves(depth) - 2;
-    let mut count: u64 = 0;
-    let mut y: u64 = 0;
-    while y < nodes {
-        y += 1;
-        count += put_entry(
-            table,
-            schedule,
-            subkeys,
+    let parent = numbers::be(nonce.0);
+    let mut count = 0u64;
+    for y in 0..2 * depth.leaves() - 2 {
+        let entry = Entry {
             depth,
-            card,
-            Node(y + 1),
-            nonce,
-            &zero,
-            parent,
-        );
+            node: Node(y + 2),
+        };
+        count += put_entry(context, entry, card, nonce, &zero, parent);
     }
     count
 }
 
 // A block anew, with the nonces after the last one used: each node of its path gets its label and its tag, each sibling its tag.
-pub fn block<'a>(
-    table: &[u8; 2048],
-    schedule: &'a [u8; 176],
-    subkeys: &'a [u8; 32],
-    depth: u64,
-    last: Nonce,
-    card: &mut [u8],
-    index: BlockIndex,
-    block: &[u8],
-) -> u64
-    requires table { IsTable table.now }
-    requires card { IsCard depth card.old }
-    requires index_bound { index.0 < 2 ^ depth }
+pub fn block(context: &Context, path: Path, last: Nonce, card: &mut [u8], block: &[u8]) -> u64
+    requires card { IsCard path.depth.levels card.old }
     requires block_len { length block.now ≡ 64 }
-    requires depth_bound { last.0 + depth < 2 ^ 64 }
+    requires depth_bound { last.0 + path.depth.levels < 2 ^ 64 }
     ensures card_after { (t : ℕ) → card.new
-        ≡ written (tag_under schedule.now subkeys.now) depth t last.0
-        card.old index.0 block.now }
-    ensures value { (t : ℕ) → result ≡ total (count_under schedule.now subkeys.now)
-        (map (message (written_labels depth t last.0 card.old index.0 block.now))
-        (pairs depth index.0)) }
+        ≡ written (tag_by context.now) path.depth.levels t last.0 card.old path.index.0 block.now }
+    ensures value { (t : ℕ) → result ≡ total (count_by context.now)
+        (map (message (written_labels path.depth.levels t last.0 card.old path.index.0 block.now))
+        (pairs path.depth.levels path.index.0)) }
 {
-    let new = last.0 + depth;
-    let mut count: u64 = 0;
-    let mut level: u64 = 0;
-    while level < depth {
-        let parent = numbers::be8(new - level);
-        level += 1;
-        let own = path::node(depth, index, level);
-        count += put_entry(
-            table,
-            schedule,
-            subkeys,
+    let depth = path.depth;
+    let new = last.0 + depth.levels;
+    let mut count = 0u64;
+    for level in 0..depth.levels {
+        let parent = numbers::be(new - level);
+        let own = path.node(level + 1);
+        let entry = Entry { depth, node: own };
+        let nonce = Nonce(new - level - 1);
+        count += put_entry(context, entry, card, nonce, block, parent);
+        let other = Entry {
             depth,
-            card,
-            own,
-            Nonce(new - level),
-            block,
-            parent,
-        );
-        count += put_tag(
-            table,
-            schedule,
-            subkeys,
-            depth,
-            card,
-            path::sibling(own),
-            parent,
-        );
+            node: own.sibling(),
+        };
+        count += put_tag(context, other, card, parent);
     }
     count
 }
 
 // The labels of that write without its tags: each node of the block's path gets its label, and no tag changes.
-pub fn labels(depth: u64, last: Nonce, card: &mut [u8], index: BlockIndex, block: &[u8])
-    requires card { IsCard depth card.old }
-    requires index_bound { index.0 < 2 ^ depth }
+pub fn labels(path: Path, last: Nonce, card: &mut [u8], block: &[u8])
+    requires card { IsCard path.depth.levels card.old }
     requires block_len { length block.now ≡ 64 }
-    requires depth_bound { last.0 + depth < 2 ^ 64 }
+    requires depth_bound { last.0 + path.depth.levels < 2 ^ 64 }
     ensures { (t : ℕ) → card.new
-        ≡ laid depth (written_labels depth t last.0 card.old index.0 block.now)
-        (path depth index.0) card.old }
+        ≡ laid path.depth.levels (written_labels path.depth.levels t last.0 card.old path.index.0 block.now)
+        (path_nodes path.depth.levels path.index.0) card.old }
 {
-    let root = last.0 + depth;
-    let mut y: u64 = 0;
-    while y < depth {
-        y += 1;
-        let own = path::node(depth, index, y);
-        put_label(depth, card, own, Nonce(root - y), block);
+    let root = last.0 + path.depth.levels;
+    for level in 0..path.depth.levels {
+        let entry = Entry {
+            depth: path.depth,
+            node: path.node(level + 1),
+        };
+        put_label(entry, card, Nonce(root - level - 1), block);
     }
 }

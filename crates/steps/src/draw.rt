@@ -1,29 +1,36 @@
-// The generator, xorshift on 64 bits. Its state is the number drawn last.
+// The generator, xorshift on 64 bits.
 ghost use Rattle.std.specs.Prelude.{◌≡◌, ◌%◌, ◌≤◌, ◌<◌};
 
-// The number after another.
-pub fn next(last: u64) -> u64 {
-    let y = last ^ (last << 13);
-    let z = y ^ (y >> 7);
-    z ^ (z << 17)
+// Its state is the number drawn last.
+#[derive(Clone, Copy)]
+pub struct Draw {
+    pub last: u64,
 }
 
-// Which of so many things a number picks.
-pub fn pick(drawn: u64, count: u64) -> u64
-    requires { 1 ≤ count }
-    ensures { (result ≡ drawn % count) × (result < count) }
-{
-    drawn % count
-}
-
-// Fills a string with bytes drawn in order, and answers the number drawn last.
-pub fn fill(drawn: u64, string: &mut [u8]) -> u64 {
-    let mut last = drawn;
-    let mut i: usize = 0;
-    while i < string.len() {
-        last = next(last);
-        string[i] = (last % 256) as u8;
-        i += 1;
+impl Draw {
+    // The next number.
+    pub fn next(&mut self) -> u64
+        ensures { result ≡ self.new.last }
+    {
+        let x = self.last;
+        let y = x ^ (x << 13);
+        let z = y ^ (y >> 7);
+        self.last = z ^ (z << 17);
+        self.last
     }
-    last
+
+    // Which of so many things the next number picks.
+    pub fn pick(&mut self, count: u64) -> u64
+        requires { 1 ≤ count }
+        ensures { (result ≡ self.new.last % count) × (result < count) }
+    {
+        self.next() % count
+    }
+
+    // Fills a string with bytes drawn in order.
+    pub fn fill(&mut self, string: &mut [u8]) {
+        for byte in string.iter_mut() {
+            *byte = (self.next() & 0xff) as u8;
+        }
+    }
 }

@@ -1,61 +1,59 @@
-// What a step starts from and what it leaves.
-use crate::sum;
-use tree::{Anchor, Answer, BlockIndex};
+// The tree's calls, with fresh buffers.
+ghost use Rattle.std.specs.Prelude.{◌≤◌};
 
-// What every byte of the two buffers is before a step.
-pub const BUFFER: u8 = 0x5a;
+use crate::left::{BUFFER, RANGES};
+use crate::{Draw, Left, sum};
+use cmac::counted::Counted;
+use tree::{Anchor, BlockIndex, Error};
 
-pub const RANGES: u8 = 0x3c;
-
-// The anchor, the block that the step names, and the number drawn last.
+// What a step leaves to the next one, but for the card: the anchor and the generator.
 #[derive(Clone, Copy)]
 pub struct Turn {
     pub anchor: Anchor,
-    pub block: BlockIndex,
-    pub drawn: u64,
+    pub draw: Draw,
 }
 
-// The answer with its count, the anchor, the number drawn last, and the sums of the buffer and of the range buffer.
-#[derive(Clone, Copy)]
-pub struct Left {
-    pub answer: Answer,
-    pub count: u64,
-    pub anchor: Anchor,
-    pub drawn: u64,
-    pub buffer: u64,
-    pub ranges: u64,
-}
-
-// What a call leaves that touches no buffer.
-pub fn untouched(answer: Answer, count: u64, anchor: Anchor, drawn: u64) -> Left {
-    Left {
-        answer: answer,
-        count: count,
-        anchor: anchor,
-        drawn: drawn,
-        buffer: no_buffer(),
-        ranges: no_ranges(),
+impl Turn {
+    // Reads a block, with so many bytes of the buffer lent.
+    pub fn read(&self, card: &[u8], index: BlockIndex, lent: usize) -> Left
+        requires { lent ≤ 64 }
+    {
+        let mut buffer = [BUFFER; 64];
+        let answer = calls::read(self.anchor, card, index, &mut buffer[..lent]);
+        Left {
+            buffer: sum::adler(&buffer),
+            ..Left::from(answer)
+        }
     }
-}
 
-// The sum of a buffer that nothing touched.
-pub fn no_buffer() -> u64 {
-    let buffer = [BUFFER; 64];
-    buffer_sum(&buffer)
-}
+    // Draws the bytes of a block and writes them, with so many bytes of the range buffer lent.
+    pub fn write(&mut self, card: &mut [u8], index: BlockIndex, lent: usize) -> Left
+        requires { lent ≤ 101 }
+    {
+        let mut block = [0u8; 64];
+        self.draw.fill(&mut block);
+        let mut ranges = [RANGES; 101];
+        let reply = calls::write(self.anchor, card, index, &block, &mut ranges[..lent]);
+        Left {
+            ranges: sum::adler(&ranges),
+            ..self.take(reply)
+        }
+    }
 
-// The sum of a range buffer that nothing touched.
-pub fn no_ranges() -> u64 {
-    let ranges = [RANGES; 101];
-    ranges_sum(&ranges)
-}
+    // Checks the card.
+    pub fn check(&self, card: &[u8]) -> Left {
+        calls::check(self.anchor, card).into()
+    }
 
-// The sum of a buffer.
-pub fn buffer_sum(buffer: &[u8; 64]) -> u64 {
-    sum::adler(buffer)
-}
+    // Wipes the card.
+    pub fn wipe(&mut self, card: &mut [u8]) -> Left {
+        let reply = calls::wipe(self.anchor, card);
+        self.take(reply)
+    }
 
-// The sum of a range buffer.
-pub fn ranges_sum(ranges: &[u8; 101]) -> u64 {
-    sum::adler(ranges)
+    // Goes on from the anchor that a call answers, where it is accepted.
+    fn take(&mut self, reply: Counted<Result<Anchor, Error>>) -> Left {
+        self.anchor = reply.value.unwrap_or(self.anchor);
+        reply.into()
+    }
 }

@@ -5,7 +5,7 @@ use Rattle.tables.specs.Field.{times}
 use Rattle.tables.specs.SBox.{s_box}
 
 -- the substitution of each byte
-unfoldable pub IsSBox : List ℕ → Type 0
+abbrev pub IsSBox : List ℕ → Type 0
 IsSBox table = (b : ℕ) → b < 256 → at table b ≡ s_box b
 
 -- what mixing makes of the column s 0 0 0
@@ -17,5 +17,5 @@ abbrev pub entry : ℕ → List ℕ
 entry b = mixed_column (s_box b) ++ mixed_column (s_box b)
 
 -- the entry of each byte, one after the other
-unfoldable pub IsRoundTable : List ℕ → Type 0
+abbrev pub IsRoundTable : List ℕ → Type 0
 IsRoundTable table = (b : ℕ) → b < 256 → part table (8 * b) 8 ≡ entry b

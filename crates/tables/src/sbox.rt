@@ -1,15 +1,32 @@
-// The substitution table. A caller makes it once and lends it: an indexed constant is copied at each use.
+// The substitution table.
+ghost use Rattle.std.specs.Prelude.{◌≡◌, ◌<◌};
+ghost use Rattle.tables.specs.SBox.{s_box};
 ghost use Rattle.tables.specs.Tables.{IsSBox};
 
-// The table.
-pub fn table() -> [u8; 256]
-    ensures { IsSBox result }
-{
-    SBOX
+// The substitution of each byte.
+#[derive(Clone, Copy)]
+pub struct SBox {
+    pub bytes: &'static [u8; 256],
+    pub ghost of_each_byte: { IsSBox bytes.now },
+}
+
+impl SBox {
+    pub fn new() -> SBox {
+        SBox {
+            bytes: &SUBSTITUTES,
+        }
+    }
+
+    pub fn substituted(self, byte: usize) -> u8
+        requires { byte < 256 }
+        ensures { result ≡ s_box byte }
+    {
+        self.bytes[byte]
+    }
 }
 
 // FIPS 197, table 4, row after row.
-const SBOX: [u8; 256] = [
+static SUBSTITUTES: [u8; 256] = [
     0x63, 0x7c, 0x77, 0x7b, 0xf2, 0x6b, 0x6f, 0xc5, 0x30, 0x01, 0x67, 0x2b, 0xfe, 0xd7, 0xab, 0x76,
     0xca, 0x82, 0xc9, 0x7d, 0xfa, 0x59, 0x47, 0xf0, 0xad, 0xd4, 0xa2, 0xaf, 0x9c, 0xa4, 0x72, 0xc0,
     0xb7, 0xfd, 0x93, 0x26, 0x36, 0x3f, 0xf7, 0xcc, 0x34, 0xa5, 0xe5, 0xf1, 0x71, 0xd8, 0x31, 0x15,

@@ -1,52 +1,23 @@
 -- Answers: their numbers, and the nodes that they name.
-use mathlib.Core.Path.{◌≡◌, refl, sym, ap, subst, ◌∙◌}
-use mathlib.Core.Bool.{false}
-use mathlib.Core.List.{List, [], ◌∷◌, ◌++◌}
-use mathlib.Core.Logic.{inl, inr}
+use mathlib.Core.Path.{◌≡◌, refl, sym, subst}
+use mathlib.Core.List.{List, [], ◌∷◌}
 use mathlib.Core.Option.{Option, none, some}
 use Prim.Native.Nat.{ℕ, ◌<◌, ◌≤◌}
 use native.Mathlib.Omega.{arith}
-use types.Run.{OneOf, miss}
-use denote.Enum.Declared.{tag_of}
 use lib.ListN.{length}
 use Rattle.tree.specs.Card.{first_wrong}
-use Rattle.tree.specs.Limits.{Limit, depth_limit, card_limit, first_failing}
-use Rattle.tree.specs.Answer.{number_of, node_of, is_whole}
+use Rattle.tree.specs.Limits.{depth_limit, card_limit, first_failing}
+use Rattle.tree.specs.Answer.{number_of, node_of}
 use Rattle.tree.specs.Calls.{Call, limits, checks, verdict, answer_of, outcome, format_answer, format}
 use Rattle.tree.specs.declared.Anchor.{Anchor}
 use Rattle.tree.specs.declared.Refusal.{Refusal}
 use Rattle.tree.specs.declared.Refusal.TheVariants.{Depth, RootNonce, CardLength, BlockNumber, BlockLength, RangeLength, NoncesSpent}
 use Rattle.tree.specs.declared.Refusal.TheVariants.{NotAwaited}
-use Rattle.tree.specs.declared.Answer.{Answer}
-use Rattle.tree.specs.declared.Answer.TheVariants.{Whole, Wrong, Refused}
-use Rattle.tree.specs.contracts.Answer as T
+use Rattle.tree.specs.Answer.{Answer}
+use Rattle.tree.specs.Answer.{Whole, Wrong, Refused}
 use Rattle.tree.proofs.LayoutLaws.{few-leaves}
-use Rattle.tree.proofs.LimitLaws.{stop-first, passed, passes-sound}
-use Rattle.tree.proofs.CallLaws.{verdict-whole, wrong-among, checks-nodes, outcome-answer}
-
-pub not-whole : (x : Answer) → OneOf (1 ∷ 2 ∷ []) (tag_of T.the_type x) → is_whole x ≡ false
-not-whole Whole k = absurd (miss (1 ∷ 2 ∷ []) 0 tt k)
-not-whole (Wrong u) k = refl
-not-whole (Refused r) k = refl
-
--- an answer that is not whole is one of the two others
-pub other_than_whole : (x : Answer) → (x ≡ Whole → ⊥) → OneOf (1 ∷ 2 ∷ []) (tag_of T.the_type x)
-other_than_whole Whole d = absurd (d refl)
-other_than_whole (Wrong u) d = inl refl
-other_than_whole (Refused r) d = inr refl
-
--- what the first of two lists of limits refuses, both together refuse; where they are passed there is no refusal
-refuses-both : (ls ms : List Limit) (r : Option Refusal) → first_failing ls ≡ r → OneOf (1 ∷ 2 ∷ []) (tag_of T.the_type (verdict r none))
-    → verdict r none ≡ verdict (first_failing (ls ++ ms)) none
-refuses-both ls ms none e k = absurd (miss (1 ∷ 2 ∷ []) 0 tt k)
-refuses-both ls ms (some r) e k = ap (λ (x : Option Refusal). verdict x none) (sym (stop-first ls ms r e))
-
-pub refused-first : (ls ms : List Limit) (x : Answer) → x ≡ verdict (first_failing ls) none → OneOf (1 ∷ 2 ∷ []) (tag_of T.the_type x)
-    → x ≡ verdict (first_failing (ls ++ ms)) none
-refused-first ls ms x e k = e ∙ refuses-both ls ms (first_failing ls) refl (rw e at k)
-
-pub none_first : (ls : List Limit) {x : Answer} → x ≡ verdict (first_failing ls) none → x ≡ Whole → first_failing ls ≡ none
-none_first ls e w = (verdict-whole _ none (sym e ∙ w)).0
+use Rattle.tree.proofs.LimitLaws.{passed, passes-sound}
+use Rattle.tree.proofs.CallLaws.{wrong-among, checks-nodes, outcome-answer}
 
 -- a number has one digit, and a node at most 17 bits
 pub number_small : (x : Answer) → number_of x ≤ 9

@@ -19,8 +19,8 @@ use Rattle.tree.specs.Calls.{wipe, first_limits, own_limits, limits, checks, tag
 use Rattle.tree.specs.Calls.{format_answer, format_card, format}
 use Rattle.tree.specs.Blind.{Blind, BlindFormat}
 use Rattle.tree.specs.declared.Anchor.{Anchor}
-use Rattle.tree.specs.declared.Answer.{Answer}
-use Rattle.tree.specs.declared.Answer.TheVariants.{Whole}
+use Rattle.tree.specs.Answer.{Answer}
+use Rattle.tree.specs.Answer.{Whole}
 use Rattle.tree.proofs.LayoutLaws.{inner, leaf, card-end, entry-fits}
 use Rattle.tree.proofs.LabelLaws.{Sized, blank-sized}
 use Rattle.tree.proofs.CardLaws.{length-stamped, stamped-more, entry_length}

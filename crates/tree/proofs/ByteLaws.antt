@@ -5,6 +5,7 @@ use mathlib.Core.Logic.{◌⊎◌, inl, inr, ⊎_elim}
 use Prim.Native.Nat.{ℕ, zero, suc, ◌+◌, ◌/◌, ◌%◌, ◌^◌, ◌<◌, ◌≤◌}
 use native.Mathlib.Nat.{pow-suc}
 use native.Mathlib.Omega.{arith}
+use Rattle.std.proofs.lemmas.List.{reverse-append}
 use lib.ListN.{length, take, drop, set, length-append, length-take, length-drop, drop_of_length-le, take-append-drop}
 use lib.Seq.{take-append_seam, drop-append_seam, take_at, drop_at, get_or-take, get_or-drop, get_or-set_other}
 use lib.Seq.{ext_get_or, drop-drop, length-take-le, take-add, sets, length-sets, sets-eq}
@@ -34,6 +35,12 @@ be-inj (suc k) x y hx hy e =
     let high : x / 256 ≡ y / 256 = be-inj k (x / 256) (y / 256) (omega arith) (omega arith) q.0 in
     let low : x % 256 ≡ y % 256 = cc q.1 in
     omega arith
+
+-- the bytes of a word, in turn
+pub reverse-bytes : (k x : ℕ) → reverse (bytes k x) ≡ be k x
+unfolding be
+reverse-bytes zero x = refl
+reverse-bytes (suc k) x = reverse-append (x % 256 ∷ []) (bytes k (x / 256)) ∙ ap (λ (s : List ℕ). s ++ (x % 256 ∷ [])) (reverse-bytes k (x / 256))
 
 -- a word that holds another's bytes in turn
 pub be-turned : (v w : ℕ) → bytes 8 v ≡ be 8 w → be 8 v ≡ bytes 8 w

@@ -17,8 +17,8 @@ use Rattle.tree.specs.Calls.{Call, read, write, check, wipe, checks, verdict, fo
 use Rattle.tree.specs.declared.Node.{Node}
 use Rattle.tree.specs.declared.Anchor.{Anchor}
 use Rattle.tree.specs.declared.Refusal.{Refusal}
-use Rattle.tree.specs.declared.Answer.{Answer}
-use Rattle.tree.specs.declared.Answer.TheVariants.{Whole, Wrong, Refused}
+use Rattle.tree.specs.Answer.{Answer}
+use Rattle.tree.specs.Answer.{Whole, Wrong, Refused}
 use Rattle.words.specs.Bytes.{same}
 use Rattle.words.proofs.Same.{same-is, same_refl}
 use Rattle.tree.proofs.LayoutLaws.{AllNodes}

@@ -18,7 +18,7 @@ use Rattle.tree.specs.Calls.{made_by, done, settled, outcome}
 use Rattle.tree.specs.Enough.{Enough}
 use Rattle.tree.specs.declared.Anchor.{Anchor}
 use Rattle.tree.specs.declared.Refusal.{Refusal}
-use Rattle.tree.specs.declared.Answer.TheVariants.{Whole, Wrong}
+use Rattle.tree.specs.Answer.{Whole, Wrong}
 
 module _ (F G : List ℕ → List ℕ) where
   -- they agree on a list of messages

@@ -63,9 +63,16 @@ entry-fits n u h = omega (arith, entry-before n u (2 * 2 ^ n) h.low h.high, leaf
 pub entry-small : (n u : ℕ) → n ≤ 16 → IsNode n u → offset n u + (size n u + 16) ≤ 6815696
 entry-small n u l h = omega (arith, entry-fits n u h, few-leaves n l)
 
+pub ruleset small_entries = (entry-small)
+
 -- the same of a card
 pub entry-on : (n : ℕ) (card : List ℕ) (u : ℕ) → IsCard n card → IsNode n u → offset n u + (size n u + 16) ≤ length card
 entry-on n card u d h = omega (arith, entry-fits n u h, d.full)
+
+-- and by where it begins and what its label has
+pub entry-ends : (n : ℕ) (card : List ℕ) (u o s : ℕ) → length card ≡ card_length n → IsNode n u → o ≡ offset n u → s ≡ size n u
+    → o + s + 16 ≤ length card
+entry-ends n card u o s f h eo es = omega (arith, entry-fits n u h)
 
 pub size_low : (n u : ℕ) → size n u ≤ 64
 size_low n u =

@@ -3,7 +3,7 @@ use mathlib.Core.Path.{◌≡◌, refl, ap, ◌∙◌}
 use mathlib.Core.Bool.{Bool, true, false, not, cond, ◌||◌}
 use mathlib.Core.List.{List, [], ◌∷◌, ◌++◌}
 use mathlib.Core.Logic.{⊎_elim}
-use mathlib.Core.Option.{none, some}
+use mathlib.Core.Option.{Option, none, some}
 use Prim.Native.Nat.{ℕ, ◌+◌, ◌*◌, ◌%◌, ◌^◌, ◌<◌, ◌≤◌}
 use native.Mathlib.Omega.{arith}
 use borrow.Author.Tests.{ltb-false, leb-false, eqb-true, eqb-false, not-false, eq-eqb, ne_eqb, le-ltb, lt-leb}
@@ -12,11 +12,12 @@ use lib.ListN.{length}
 use Rattle.words.proofs.Cases.{below_or_not}
 use Rattle.tree.specs.Layout.{IsCard, card_length}
 use Rattle.tree.specs.Limits.{Limit, depth_limit, card_limit, first_failing}
-use Rattle.tree.specs.Tests.{failing}
-use Rattle.tree.specs.Calls.{Call, read, write, check, wipe, first_limits, own_limits, limits}
+use Rattle.tree.specs.Tests.{test_result, tested}
+use Rattle.tree.specs.Answer.{limited_in}
+use Rattle.std.specs.Prelude.{Result, Ok, Err}
+use Rattle.tree.specs.Calls.{verdict, Call, read, write, check, wipe, first_limits, own_limits, limits}
 use Rattle.tree.specs.declared.Anchor.{Anchor}
 use Rattle.tree.specs.declared.Refusal.{Refusal}
-use Rattle.tree.specs.declared.limits.Test.TheVariants.{Passed, Failed}
 
 -- The first that fails
 
@@ -24,22 +25,14 @@ pub no-limits : first_failing [] ≡ none
 unfolding first_failing
 no-limits = refl
 
--- by the test of the first one: it leaves the rest to decide, or decides
-pub skip : (l : Limit) (ls : List Limit) → failing l.fails ≡ Passed → first_failing (l ∷ ls) ≡ first_failing ls
+-- the first one leaves the rest to decide, or decides
+pub skip : (l : Limit) (ls : List Limit) → l.fails ≡ false → first_failing (l ∷ ls) ≡ first_failing ls
 unfolding first_failing
-skip l ls e = go l.fails e
-  where
-    go : (b : Bool) → failing b ≡ Passed → cond b (some l.refusal) (first_failing ls) ≡ first_failing ls
-    go true e = let z : ◌≡◌ {A = ℕ} 0 1 = cc in absurd (omega arith)
-    go false e = refl
+skip l ls e = rw e
 
-pub stop : (l : Limit) (ls : List Limit) → failing l.fails ≡ Failed → first_failing (l ∷ ls) ≡ some l.refusal
+pub stop : (l : Limit) (ls : List Limit) → l.fails ≡ true → first_failing (l ∷ ls) ≡ some l.refusal
 unfolding first_failing
-stop l ls e = go l.fails e
-  where
-    go : (b : Bool) → failing b ≡ Failed → cond b (some l.refusal) (first_failing ls) ≡ some l.refusal
-    go true e = refl
-    go false e = let z : ◌≡◌ {A = ℕ} 0 1 = cc in absurd (omega arith)
+stop l ls e = rw e
 
 -- of one list after another
 pub stop-first : (ls ms : List Limit) (r : Refusal) → first_failing ls ≡ some r → first_failing (ls ++ ms) ≡ some r
@@ -112,16 +105,53 @@ depth-in n e =
       ltb-false 16 n d.1,
     )
 
-not-failing : (b : Bool) → failing b ≡ Passed → b ≡ false
-not-failing true e = let z : ◌≡◌ {A = ℕ} 0 1 = cc in absurd (omega arith)
-not-failing false e = refl
+-- What a row of tests answers
+
+-- one limit's test
+pub tested-one : (l : Limit) → cond l.fails (Err l.refusal) (Ok tt) ≡ tested (l ∷ [])
+unfolding first_failing
+tested-one l = go l.fails
+  where
+    go : (b : Bool) → ◌≡◌ {A = Result Unit Refusal} (cond b (Err l.refusal) (Ok tt)) (test_result (cond b (some l.refusal) none))
+    go true = refl
+    go false = refl
+
+-- no limit of the row fails, or the first that does is this one
+pub none-failing : (ls : List Limit) {x : Unit} → tested ls ≡ Ok x → first_failing ls ≡ none
+none-failing ls e = go (first_failing ls) e
+  where
+    go : (o : Option Refusal) {x : Unit} → test_result o ≡ Ok x → o ≡ none
+    go none e = refl
+    go (some r) e = cc
+
+pub this_fails : (ls : List Limit) {r : Refusal} → tested ls ≡ Err r → first_failing ls ≡ some r
+this_fails ls e = go (first_failing ls) e
+  where
+    go : (o : Option Refusal) {r : Refusal} → test_result o ≡ Err r → o ≡ some r
+    go none e = cc
+    go (some s) e = cc
+
+-- one row after another
+pub tested-then : (ls ms : List Limit) {x : Unit} → tested ls ≡ Ok x → tested (ls ++ ms) ≡ tested ms
+tested-then ls ms e = ap test_result (skip_first ls ms (none-failing ls e))
+
+pub tested-stop : (ls ms : List Limit) {r : Refusal} → tested ls ≡ Err r → tested (ls ++ ms) ≡ Err r
+tested-stop ls ms e = ap test_result (stop-first ls ms _ (this_fails ls e))
+
+-- what a row says of the answer
+pub limited-tested : (ls : List Limit) → limited_in (tested ls) ≡ verdict (first_failing ls) none
+limited-tested ls = go (first_failing ls)
+  where
+    go : (o : Option Refusal) → limited_in (test_result o) ≡ verdict o none
+    go none = refl
+    go (some r) = refl
 
 -- by their tests
-pub deep-enough : (n : ℕ) → failing (depth_limit n).fails ≡ Passed → (1 ≤ n) × (n ≤ 16)
-deep-enough n e = depth-in n (not-failing (depth_limit n).fails e)
+pub deep-enough : (n : ℕ) {x : Unit} → tested (depth_limit n ∷ []) ≡ Ok x → (1 ≤ n) × (n ≤ 16)
+deep-enough n e = depth-in n (passes (depth_limit n) [] (none-failing (depth_limit n ∷ []) e)).0
 
-pub long-enough : (n len : ℕ) → failing (card_limit n len).fails ≡ Passed → len ≡ card_length n
-long-enough n len e = is-equal len (card_length n) (not-failing (card_limit n len).fails e)
+pub long-enough : (n len : ℕ) {x : Unit} → tested (card_limit n len ∷ []) ≡ Ok x → len ≡ card_length n
+long-enough n len e = is-equal len (card_length n) (passes (card_limit n len) [] (none-failing (card_limit n len ∷ []) e)).0
 
 -- What holds where a call's limits are all passed
 

@@ -1,7 +1,7 @@
 -- The ranges that a write changes: how many, how long, in order and on the card; and nothing changes outside them.
 use mathlib.Core.Path.{◌≡◌, refl, sym, ap, subst, ◌∙◌}
 use mathlib.Core.List.Memᴰ
-use mathlib.Core.List.{List, [], ◌∷◌, ◌++◌, append_assoc, append-nil, Memᴰ}
+use mathlib.Core.List.{List, [], ◌∷◌, ◌++◌, append_assoc, Memᴰ}
 use mathlib.Core.Logic.{◌⊎◌, inl, inr, ⊎_elim}
 use Prim.Native.Nat.{ℕ, zero, suc, ◌+◌, ◌*◌, ◌-◌, ◌/◌, ◌^◌, ◌<◌, ◌≤◌}
 use native.Mathlib.Nat.{eq-or-lt_of_le, pow-suc}
@@ -14,7 +14,6 @@ use lib.Pow.{pow_mono, pow_pos}
 use Rattle.words.specs.Bytes.{at}
 use Rattle.words.proofs.Stores.{sets-append}
 use Rattle.words.proofs.Cases.{below_or_not, equal_or_not}
-use Rattle.tree.specs.Numbers.{be}
 use Rattle.tree.specs.Layout.{size, offset, card_length, label}
 use Rattle.tree.specs.Nodes.{path_node, pairs}
 use Rattle.tree.specs.Labels.{Labels, labels, new_labels}
@@ -88,10 +87,6 @@ range-own n u w e = rw (eq-eqb w u e) (record { start_is = refl; count-is = refl
 
 pub range_other : (n u w : ℕ) → (w ≡ u → ⊥) → RangeIs (range_of n u w) (offset n w + size n w) 16
 range_other n u w d = rw (ne_eqb w u d) (record { start_is = refl; count-is = refl })
-
-pub encode_one : (r : Range) (start count : ℕ) → RangeIs r start count → be 4 start ++ be 4 count ≡ encode (r ∷ [])
-unfolding encode
-encode_one r start count h = rw (append-nil, h.start_is, h.count-is)
 
 record Ends (n u w : ℕ) : Type 0 where
   low : offset n w ≤ (range_of n u w).start

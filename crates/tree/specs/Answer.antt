@@ -1,10 +1,17 @@
--- The papers' number of each answer, and the node that it names.
-use Rattle.std.specs.Prelude.{ℕ, Bool, true, false}
+-- What a call answers, the papers' number of it and the node that it names, and how the code gives it back.
+use Rattle.std.specs.Prelude.{ℕ, Bool, true, false, Result, Ok, Err}
+use Rattle.tree.specs.declared.Node.{Node}
+use Rattle.tree.specs.declared.Error.{Error}
+use Rattle.tree.specs.declared.Error.TheVariants.{WrongTag, Limit}
 use Rattle.tree.specs.declared.Refusal.{Refusal}
 use Rattle.tree.specs.declared.Refusal.TheVariants.{Depth, RootNonce, CardLength, BlockNumber, BlockLength, RangeLength, NoncesSpent}
 use Rattle.tree.specs.declared.Refusal.TheVariants.{NotAwaited}
-use Rattle.tree.specs.declared.Answer.{Answer}
-use Rattle.tree.specs.declared.Answer.TheVariants.{Whole, Wrong, Refused}
+
+-- every tag that it checked is right, and it is accepted; or the first one that is wrong; or a refusal
+pub data Answer : Type 0 where
+  Whole : Answer
+  Wrong : (u : Node) → Answer
+  Refused : (r : Refusal) → Answer
 
 abbrev pub refusal_number : Refusal → ℕ
 refusal_number Depth = 1
@@ -31,3 +38,18 @@ abbrev pub is_whole : Answer → Bool
 is_whole Whole = true
 is_whole (Wrong u) = false
 is_whole (Refused r) = false
+
+-- the answer that an error stands for
+abbrev pub refused_as : Error → Answer
+refused_as (WrongTag u) = Wrong u
+refused_as (Limit r) = Refused r
+
+-- the answer of a call that gives back a value where it is accepted
+abbrev pub answer_in : {A : Type 0} → Result A Error → Answer
+answer_in (Ok x) = Whole
+answer_in (Err e) = refused_as e
+
+-- the same of a call that checks no tag
+abbrev pub limited_in : {A : Type 0} → Result A Refusal → Answer
+limited_in (Ok x) = Whole
+limited_in (Err r) = Refused r

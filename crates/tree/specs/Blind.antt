@@ -4,7 +4,7 @@ use Rattle.std.proofs.Math.Option.{none}
 use Rattle.tree.specs.Limits.{first_failing}
 use Rattle.tree.specs.Calls.{wipe, limits, verdict, outcome, format}
 use Rattle.tree.specs.declared.Anchor.{Anchor}
-use Rattle.tree.specs.declared.Answer.TheVariants.{Whole}
+use Rattle.tree.specs.Answer.{Whole}
 
 pub record Blind (F : List ℕ → List ℕ) (a : Anchor) : Type 0 where
   -- a limit alone refuses a wipe

@@ -10,8 +10,8 @@ use Rattle.tree.specs.Ranges.{listed}
 use Rattle.tree.specs.Limits.{Limit, depth_limit, nonce_limit, card_limit, block_limit, length_limit, range_limit, spent_limit, first_failing}
 use Rattle.tree.specs.declared.Anchor.{Anchor}
 use Rattle.tree.specs.declared.Refusal.{Refusal}
-use Rattle.tree.specs.declared.Answer.{Answer}
-use Rattle.tree.specs.declared.Answer.TheVariants.{Whole, Wrong, Refused}
+use Rattle.tree.specs.Answer.{Answer}
+use Rattle.tree.specs.Answer.{Whole, Wrong, Refused}
 
 -- A call after format, with what it is lent: a buffer of any bytes to a read, a new block and a range buffer to a write. A wipe empties
 -- the card under the same key.

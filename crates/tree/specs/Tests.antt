@@ -1,12 +1,12 @@
--- The two answers of a test.
-use Rattle.std.specs.Prelude.{Bool, true, false}
-use Rattle.tree.specs.declared.limits.Test.{Test}
-use Rattle.tree.specs.declared.limits.Test.TheVariants.{Passed, Failed}
+-- What a row of tests answers: the first limit that fails.
+use Rattle.std.specs.Prelude.{List, Result, Ok, Err}
+use Rattle.std.proofs.Math.Option.{Option, none, some}
+use Rattle.tree.specs.Limits.{Limit, first_failing}
+use Rattle.tree.specs.declared.Refusal.{Refusal}
 
-abbrev pub passing : Bool → Test
-passing true = Passed
-passing false = Failed
+abbrev pub test_result : Option Refusal → Result Unit Refusal
+test_result none = Ok tt
+test_result (some r) = Err r
 
-abbrev pub failing : Bool → Test
-failing true = Failed
-failing false = Passed
+abbrev pub tested : List Limit → Result Unit Refusal
+tested ls = test_result (first_failing ls)

@@ -9,10 +9,14 @@ pub mod path;
 pub mod ranges;
 
 ghost use Rattle.std.specs.Prelude.{◌≡◌};
-ghost use Rattle.tree.specs.Answer.{number_of, node_of};
+ghost use Rattle.tree.specs.Answer.{number_of, node_of, refused_as, answer_in};
+ghost use Rattle.tree.specs.declared.Error.TheVariants.{Limit};
+
+pub use layout::{Depth, Entry};
+pub use path::Path;
 
 // A node: the root is 1, and node u has the children 2u and 2u + 1.
-#[derive(Clone, Copy)]
+#[derive(Clone, Copy, PartialEq, Eq)]
 pub struct Node(pub u64);
 
 // The number of a block (document 01: block number). Block i is the leaf 2^depth + i.
@@ -21,7 +25,7 @@ pub struct BlockIndex(pub u64);
 
 // The number that the root or an inner node gets anew with each write below it (document 01: serial; the tree paper: nonce).
 #[repr(C)]
-#[derive(Clone, Copy)]
+#[derive(Clone, Copy, PartialEq, Eq)]
 pub struct Nonce(pub u64);
 
 // The chip's record, which is trusted.
@@ -34,68 +38,71 @@ pub struct Anchor {
 }
 
 // Why a call is refused, but for a wrong tag, in the order of the papers' numbers: 1 to 7, and 9.
-#[derive(Clone, Copy)]
+#[derive(Clone, Copy, PartialEq, Eq)]
 pub enum Refusal {
-    Depth,
-    RootNonce,
-    CardLength,
-    BlockNumber,
-    BlockLength,
-    RangeLength,
-    NoncesSpent,
-    NotAwaited,
+    Depth = 1,
+    RootNonce = 2,
+    CardLength = 3,
+    BlockNumber = 4,
+    BlockLength = 5,
+    RangeLength = 6,
+    NoncesSpent = 7,
+    NotAwaited = 9,
 }
 
-// What a call answers: every tag that it checked is right, and it is accepted; or the first one that is wrong; or a refusal.
+// Why a call is not accepted: the first node whose tag is wrong, or a limit.
 #[derive(Clone, Copy)]
-pub enum Answer {
-    Whole,
-    Wrong(Node),
-    Refused(Refusal),
+pub enum Error {
+    WrongTag(Node),
+    Limit(Refusal),
 }
 
-// What a call gives back that leaves the anchor as it was: the answer, and how many times it went through the cipher.
-#[derive(Clone, Copy)]
-pub struct Report {
-    pub answer: Answer,
-    pub count: u64,
-}
+impl From<Refusal> for Error {
+    ghost from_gives = { λ refusal error. error ≡ Limit refusal };
 
-// The same of a call that moves the anchor: it has the anchor as it is then.
-#[derive(Clone, Copy)]
-pub struct Reply {
-    pub answer: Answer,
-    pub anchor: Anchor,
-    pub count: u64,
-}
-
-// The papers' number of an answer, 0 when accepted.
-pub fn number(answer: Answer) -> u64
-    ensures { result ≡ number_of answer }
-{
-    match answer {
-        Answer::Whole => 0,
-        Answer::Wrong(_) => 8,
-        Answer::Refused(refusal) => match refusal {
-            Refusal::Depth => 1,
-            Refusal::RootNonce => 2,
-            Refusal::CardLength => 3,
-            Refusal::BlockNumber => 4,
-            Refusal::BlockLength => 5,
-            Refusal::RangeLength => 6,
-            Refusal::NoncesSpent => 7,
-            Refusal::NotAwaited => 9,
-        },
+    fn from(refusal: Refusal) -> Error {
+        Error::Limit(refusal)
     }
 }
 
-// The node of an answer, 0 where it names none.
-pub fn node_of(answer: Answer) -> u64
-    ensures { result ≡ node_of answer }
+impl Error {
+    // The papers' number.
+    pub fn number(self) -> u64
+        ensures { result ≡ number_of (refused_as self) }
+    {
+        match self {
+            Error::WrongTag(_) => 8,
+            Error::Limit(refusal) => refusal as u64,
+        }
+    }
+
+    // The node that it names, 0 where it names none.
+    pub fn node(self) -> u64
+        ensures { result ≡ node_of (refused_as self) }
+    {
+        match self {
+            Error::WrongTag(node) => node.0,
+            Error::Limit(_) => 0,
+        }
+    }
+}
+
+// The number of what a call answers: 0 where it is accepted. Numbers are what C and a log have; a `Result` takes no From of its own.
+pub fn number(answer: Result<(), Error>) -> u64
+    ensures { result ≡ number_of (answer_in answer) }
 {
     match answer {
-        Answer::Whole => 0,
-        Answer::Wrong(node) => node.0,
-        Answer::Refused(_) => 0,
+        Ok(()) => 0,
+        Err(error) => error.number(),
+    }
+}
+
+// The node of what a call answers, 0 where it names none.
+pub fn node_of(answer: Result<(), Error>) -> u64
+    ensures { result ≡ node_of (answer_in answer) }
+{
+    match answer {
+        Ok(()) => 0,
+        Err(error) => error.node(),
     }
 }

@@ -1,136 +1,101 @@
 // The limits, each as a test of its own, by document 01's numbers. A comment says what is passed.
-ghost use Rattle.std.specs.Prelude.{◌≡◌, ◌++◌, ◌≤◌, ◌<◌};
-ghost use Rattle.std.proofs.Math.Option.{none};
-ghost use Rattle.tree.specs.Limits.{depth_limit, nonce_limit, card_limit, block_limit, length_limit, range_limit, spent_limit, first_failing};
-ghost use Rattle.tree.specs.Tests.{failing};
-ghost use Rattle.tree.specs.Calls.{first_limits, write_limits, verdict};
+#![tactic(auto, unfolding(crate::specs::Limits::first_failing))]
 
-use crate::{Anchor, Answer, BlockIndex, Nonce, Refusal};
+ghost use Rattle.std.specs.Prelude.{◌≡◌, cond, [], ◌∷◌, ◌++◌, ◌≤◌, Ok, Err};
+ghost use Rattle.tree.specs.Limits.{depth_limit, nonce_limit, card_limit, block_limit, length_limit, range_limit, spent_limit};
+ghost use Rattle.tree.specs.Tests.{tested};
+ghost use Rattle.tree.specs.Calls.{first_limits, write_limits};
+
+use crate::{Anchor, BlockIndex, Depth, Nonce, Refusal};
 
 // What a test answers.
-#[derive(Clone, Copy)]
-pub enum Test {
-    Passed,
-    Failed,
+fn unless(fails: bool, refusal: Refusal) -> Result<(), Refusal>
+    ensures { result ≡ cond fails (Err refusal) (Ok tt) }
+{
+    if fails { Err(refusal) } else { Ok(()) }
 }
 
 // 1: the depth is 1 to 16.
-pub fn depth(depth: u64) -> Test
-    ensures { result ≡ failing (depth_limit depth).fails }
+pub fn depth(depth: u64) -> Result<(), Refusal>
+    ensures { result ≡ tested (depth_limit depth ∷ []) }
 {
-    if depth == 0 {
-        return Test::Failed;
-    }
-    if 16 < depth {
-        return Test::Failed;
-    }
-    Test::Passed
+    unless(depth == 0 || 16 < depth, Refusal::Depth)
 }
 
 // 2: the root nonce is a multiple of the depth.
-pub fn root_nonce(depth: u64, root: Nonce) -> Test
+pub fn root_nonce(depth: u64, root: Nonce) -> Result<(), Refusal>
     requires { 1 ≤ depth }
-    ensures { result ≡ failing (nonce_limit depth root.0).fails }
+    ensures { result ≡ tested (nonce_limit depth root.0 ∷ []) }
 {
-    if root.0 % depth == 0 {
-        return Test::Passed;
-    }
-    Test::Failed
+    unless(root.0 % depth != 0, Refusal::RootNonce)
 }
 
 // 3: the card has its length.
-pub fn card_length(depth: u64, len: usize) -> Test
-    requires { depth ≤ 16 }
-    ensures { result ≡ failing (card_limit depth len).fails }
+pub fn card_length(depth: Depth, len: usize) -> Result<(), Refusal>
+    ensures { result ≡ tested (card_limit depth.levels len ∷ []) }
 {
-    if len as u64 == 104 * crate::layout::leaves(depth) - 48 {
-        return Test::Passed;
-    }
-    Test::Failed
+    unless(len as u64 != 104 * depth.leaves() - 48, Refusal::CardLength)
 }
 
-// 1, 2 and 3 in a row, with which every call after format begins: whole, or the refusal. `len` is the card's length.
-pub fn first(anchor: Anchor, len: usize) -> Answer
-    ensures { result ≡ verdict (first_failing (first_limits anchor len)) none }
+// 1, 2 and 3 in a row, with which every call after format begins. `len` is the card's length.
+pub fn first(anchor: Anchor, len: usize) -> Result<(), Refusal>
+    ensures { result ≡ tested (first_limits anchor len) }
 {
-    let depth = anchor.depth;
-    let Test::Passed = self::depth(depth) else {
-        return Answer::Refused(Refusal::Depth);
-    };
-    let root = anchor.root;
-    let Test::Passed = root_nonce(depth, root) else {
-        return Answer::Refused(Refusal::RootNonce);
-    };
-    let Test::Passed = card_length(depth, len) else {
-        return Answer::Refused(Refusal::CardLength);
-    };
-    Answer::Whole
+    depth(anchor.depth)?;
+    root_nonce(anchor.depth, anchor.root)?;
+    card_length(
+        Depth {
+            levels: anchor.depth,
+        },
+        len,
+    )
 }
 
 // 4: there is such a block.
-pub fn block_number(depth: u64, index: BlockIndex) -> Test
-    requires { depth ≤ 16 }
-    ensures { result ≡ failing (block_limit depth index.0).fails }
+pub fn block_number(depth: Depth, index: BlockIndex) -> Result<(), Refusal>
+    ensures { result ≡ tested (block_limit depth.levels index.0 ∷ []) }
 {
-    if index.0 < crate::layout::leaves(depth) {
-        return Test::Passed;
-    }
-    Test::Failed
+    unless(depth.leaves() <= index.0, Refusal::BlockNumber)
 }
 
 // 5: a read buffer or a new block has 64 bytes.
-pub fn block_length(len: usize) -> Test
-    ensures { result ≡ failing (length_limit len).fails }
+pub fn block_length(len: usize) -> Result<(), Refusal>
+    ensures { result ≡ tested (length_limit len ∷ []) }
 {
-    if len == 64 {
-        return Test::Passed;
-    }
-    Test::Failed
+    unless(len != 64, Refusal::BlockLength)
 }
 
 // 6: the range buffer has room.
-pub fn range_length(depth: u64, len: usize) -> Test
-    requires { depth ≤ 16 }
-    ensures { result ≡ failing (range_limit depth len).fails }
+pub fn range_length(depth: Depth, len: usize) -> Result<(), Refusal>
+    ensures { result ≡ tested (range_limit depth.levels len ∷ []) }
 {
-    if (len as u64) < 16 * depth {
-        return Test::Failed;
-    }
-    Test::Passed
+    unless((len as u64) < 16 * depth.levels, Refusal::RangeLength)
 }
 
 // 7: the nonces after the last one used suffice for one more write or wipe.
-pub fn nonces_spent(depth: u64, last: Nonce) -> Test
-    ensures { result ≡ failing (spent_limit depth last.0).fails }
+pub fn nonces_spent(depth: u64, last: Nonce) -> Result<(), Refusal>
+    ensures { result ≡ tested (spent_limit depth last.0 ∷ []) }
 {
-    if 18446744073709551615 - depth < last.0 {
-        return Test::Failed;
-    }
-    Test::Passed
+    unless(u64::MAX - depth < last.0, Refusal::NoncesSpent)
 }
 
-// 1 to 7 in a row, as a write and a plan test them: whole, or the refusal. `len`, `block` and `ranges` are the lengths of the card, of the
-// new block and of the range buffer.
-pub fn write(anchor: Anchor, len: usize, index: BlockIndex, block: usize, ranges: usize) -> Answer
-    ensures { result ≡ verdict (first_failing (first_limits anchor len ++ write_limits anchor index.0 block ranges)) none }
+// 1 to 7 in a row, as a write and a plan test them. `len`, `block` and `ranges` are the lengths of the card, of the new block and of the
+// range buffer.
+pub fn write(
+    anchor: Anchor,
+    len: usize,
+    index: BlockIndex,
+    block: usize,
+    ranges: usize,
+) -> Result<(), Refusal>
+    ensures { result ≡ tested (first_limits anchor len ++ write_limits anchor index.0 block ranges) }
 {
-    let first = first(anchor, len);
-    let Answer::Whole = first else {
-        return first;
+    first(anchor, len)?;
+    let depth = Depth {
+        levels: anchor.depth,
     };
-    let depth = anchor.depth;
-    let Test::Passed = block_number(depth, index) else {
-        return Answer::Refused(Refusal::BlockNumber);
-    };
-    let Test::Passed = block_length(block) else {
-        return Answer::Refused(Refusal::BlockLength);
-    };
-    let Test::Passed = range_length(depth, ranges) else {
-        return Answer::Refused(Refusal::RangeLength);
-    };
-    let root = anchor.root;
-    let Test::Passed = nonces_spent(depth, root) else {
-        return Answer::Refused(Refusal::NoncesSpent);
-    };
-    Answer::Whole
+    block_number(depth, index)?;
+    block_length(block)?;
+    range_length(depth, ranges)?;
+    nonces_spent(anchor.depth, anchor.root)
 }

@@ -2,23 +2,35 @@
 ghost use Rattle.std.specs.Prelude.{◌≡◌, ◌^◌, ◌≤◌, ◌<◌};
 ghost use Rattle.tree.specs.Nodes.{path_node, sibling};
 
-use crate::{BlockIndex, Node};
+use crate::{BlockIndex, Depth, Node};
 
-// The node at a level of the path to a block.
-pub fn node(depth: u64, index: BlockIndex, level: u64) -> Node
-    requires level_le_depth { (level ≤ depth) × (depth ≤ 16) }
-    requires index_bound { index.0 < 2 ^ depth }
-    ensures { result.0 ≡ path_node depth index.0 level }
-{
-    let leaf = crate::layout::leaves(depth) + index.0;
-    Node(leaf >> (depth - level))
+// The path from the root to a block of a card of that depth.
+#[derive(Clone, Copy)]
+pub struct Path {
+    pub depth: Depth,
+    pub index: BlockIndex,
+    pub ghost on_card: { index.0 < 2 ^ depth.levels },
 }
 
-// The other child of a node's parent.
-pub fn sibling(node: Node) -> Node
-    requires { node.0 < 131072 }
-    ensures { result.0 ≡ sibling node.0 }
-{
-    let u = node.0;
-    Node(u + 1 - 2 * (u % 2))
+impl Path {
+    // Its node at a level.
+    #[tactic(auto, unfolding(crate::specs::Nodes::path_node))]
+    pub fn node(self, level: u64) -> Node
+        requires { level ≤ self.depth.levels }
+        ensures { result.0 ≡ path_node self.depth.levels self.index.0 level }
+    {
+        let leaf = self.depth.leaves() + self.index.0;
+        Node(leaf >> (self.depth.levels - level))
+    }
+}
+
+impl Node {
+    // The other child of its parent.
+    #[tactic(auto, unfolding(crate::specs::Nodes::sibling))]
+    pub fn sibling(self) -> Node
+        requires { self.0 < 131072 }
+        ensures { result.0 ≡ sibling self.0 }
+    {
+        Node(self.0 + 1 - 2 * (self.0 % 2))
+    }
 }

@@ -1,31 +1,31 @@
 // The ranges that a write reports.
-ghost use Rattle.std.specs.Prelude.{◌≡◌, [], ◌∷◌, ◌++◌, ◌+◌, ◌*◌, ◌^◌, ◌≤◌, ◌<◌, length};
+ghost use Rattle.std.specs.Prelude.{◌≡◌, [], ◌∷◌, ◌++◌, ◌+◌, ◌*◌, ◌≤◌, length};
 ghost use Rattle.std.proofs.lemmas.List.Edits.{sets};
 ghost use Rattle.tree.specs.Numbers.{be};
-ghost use Rattle.tree.specs.Layout.{IsNode};
 ghost use Rattle.tree.specs.Ranges.{range_of, encode, listed};
 
-use crate::{BlockIndex, Node, layout, numbers, path};
+use crate::{Entry, Node, Path, numbers};
+use words::Packed;
 
 // Puts one range at a place of the buffer.
+#[tactic(auto, unfolding(crate::specs::Numbers::be))]
 fn put_range(buffer: &mut [u8], place: usize, start: u32, count: u32)
     requires { place + 8 ≤ length buffer.old }
     ensures { buffer.new ≡ sets buffer.old place (be 4 start ++ be 4 count) }
 {
-    words::put_word(buffer, place, numbers::be4(start));
-    words::put_word(buffer, place + 4, numbers::be4(count));
+    numbers::be(start).put(buffer, place);
+    numbers::be(count).put(buffer, place + 4);
 }
 
-// Puts the range of a node; `own` is the node of its level on the path.
-fn put_node(depth: u64, own: Node, node: Node, buffer: &mut [u8], place: usize)
-    requires le_depth { (1 ≤ depth) × (depth ≤ 16) }
-    requires node { IsNode depth node.0 }
-    requires place_in_bounds { place + 8 ≤ length buffer.old }
-    ensures { buffer.new ≡ sets buffer.old place (encode (range_of depth own.0 node.0 ∷ [])) }
+// Puts the range of a node's entry; `own` is the node of its level on the path.
+#[tactic(auto, using(crate::proofs::LayoutLaws::small_entries), unfolding(crate::specs::Ranges::encode))]
+fn put_entry(own: Node, entry: Entry, buffer: &mut [u8], place: usize)
+    requires { place + 8 ≤ length buffer.old }
+    ensures { buffer.new ≡ sets buffer.old place (encode (range_of entry.depth.levels own.0 entry.node.0 ∷ [])) }
 {
-    let start = layout::offset(depth, node);
-    let count = layout::size(depth, node);
-    if node.0 == own.0 {
+    let start = entry.offset();
+    let count = entry.size();
+    if entry.node == own {
         put_range(buffer, place, start as u32, (count + 16) as u32);
     } else {
         put_range(buffer, place, (start + count) as u32, 16);
@@ -33,19 +33,32 @@ fn put_node(depth: u64, own: Node, node: Node, buffer: &mut [u8], place: usize)
 }
 
 // All of a write to a block.
-pub fn fill(depth: u64, index: BlockIndex, buffer: &mut [u8])
-    requires le_depth { (1 ≤ depth) × (depth ≤ 16) }
-    requires index_bound { index.0 < 2 ^ depth }
-    requires depth_in_bounds { 16 * depth ≤ length buffer.old }
-    ensures { buffer.new ≡ listed depth index.0 buffer.old }
+pub fn fill(path: Path, buffer: &mut [u8])
+    requires { 16 * path.depth.levels ≤ length buffer.old }
+    ensures { buffer.new ≡ listed path.depth.levels path.index.0 buffer.old }
 {
-    let mut level: u64 = 0;
-    while level < depth {
+    let depth = path.depth;
+    for level in 0..depth.levels {
         let place = (16 * level) as usize;
-        level += 1;
-        let own = path::node(depth, index, level);
+        let own = path.node(level + 1);
         let lower = 2 * (own.0 / 2);
-        put_node(depth, own, Node(lower), buffer, place);
-        put_node(depth, own, Node(lower + 1), buffer, place + 8);
+        put_entry(
+            own,
+            Entry {
+                depth,
+                node: Node(lower),
+            },
+            buffer,
+            place,
+        );
+        put_entry(
+            own,
+            Entry {
+                depth,
+                node: Node(lower + 1),
+            },
+            buffer,
+            place + 8,
+        );
     }
 }

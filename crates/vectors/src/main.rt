@@ -2,11 +2,12 @@
 // standards print.
 #![tactic(auto)]
 
-use std::io;
-
-mod hex;
-
 ghost use Rattle.std.specs.Prelude.{◌≤◌, length};
+
+use cipher::Aes128;
+use cmac::Context;
+use std::io;
+use words::{Block, Packed};
 
 // The key of FIPS 197, appendix B, of SP 800-38A, F.1.1 and of RFC 4493, section 4.
 const KEY: [u8; 16] = [
@@ -37,63 +38,34 @@ const MESSAGE: [u8; 64] = [
 
 fn main(rt: HostRuntime) -> io::Result<()> {
     let m = MESSAGE;
-    let zero = [0u8; 16];
-    encrypted(&rt, b"FIPS 197 B            ", KEY, &INPUT_B)?;
-    encrypted(&rt, b"FIPS 197 C.1          ", KEY_C, &INPUT_C)?;
-    encrypted(&rt, b"SP 800-38A F.1.1 #1   ", KEY, &m[..16])?;
-    encrypted(&rt, b"SP 800-38A F.1.1 #2   ", KEY, &m[16..32])?;
-    encrypted(&rt, b"SP 800-38A F.1.1 #3   ", KEY, &m[32..48])?;
-    encrypted(&rt, b"SP 800-38A F.1.1 #4   ", KEY, &m[48..])?;
-    encrypted(&rt, b"RFC 4493 AES-128(0)   ", KEY, &zero)?;
-    subkeys(&rt)?;
-    tagged(&rt, b"RFC 4493 example 1    ", &m[..0])?;
-    tagged(&rt, b"RFC 4493 example 2    ", &m[..16])?;
-    tagged(&rt, b"RFC 4493 example 3    ", &m[..40])?;
-    tagged(&rt, b"RFC 4493 example 4    ", &m)
+    encrypted(&rt, "FIPS 197 B", KEY, &INPUT_B)?;
+    encrypted(&rt, "FIPS 197 C.1", KEY_C, &INPUT_C)?;
+    encrypted(&rt, "SP 800-38A F.1.1 #1", KEY, &m[..16])?;
+    encrypted(&rt, "SP 800-38A F.1.1 #2", KEY, &m[16..32])?;
+    encrypted(&rt, "SP 800-38A F.1.1 #3", KEY, &m[32..48])?;
+    encrypted(&rt, "SP 800-38A F.1.1 #4", KEY, &m[48..])?;
+    encrypted(&rt, "RFC 4493 AES-128(0)", KEY, &[0; 16])?;
+    let context = Context::new(KEY);
+    line(&rt, "RFC 4493 K1", Block::at(&context.subkeys, 0))?;
+    line(&rt, "RFC 4493 K2", Block::at(&context.subkeys, 16))?;
+    line(&rt, "RFC 4493 example 1", context.tag(&m[..0]).value)?;
+    line(&rt, "RFC 4493 example 2", context.tag(&m[..16]).value)?;
+    line(&rt, "RFC 4493 example 3", context.tag(&m[..40]).value)?;
+    line(&rt, "RFC 4493 example 4", context.tag(&m).value)
 }
 
 // Prints a block under a key.
-fn encrypted(rt: &impl Print, label: &[u8], key: [u8; 16], input: &[u8]) -> io::Result<()>
+fn encrypted(rt: &impl Print, label: &str, key: [u8; 16], input: &[u8]) -> io::Result<()>
     requires { 16 ≤ length input.now }
 {
-    let sbox = tables::sbox::table();
-    let schedule = cipher::key::expand(&sbox, key);
-    let table = tables::round_table::table();
-    let output = cipher::encrypt(&table, &schedule, words::block_at(input, 0));
-    line(rt, label, words::bytes_of(output))
+    line(rt, label, Aes128::new(key).encrypt(Block::at(input, 0)))
 }
 
-// Prints both subkeys.
-fn subkeys(rt: &impl Print) -> io::Result<()> {
-    let table = cmac::table();
-    let context = cmac::context_of(&table, KEY);
-    line(
-        rt,
-        b"RFC 4493 K1           ",
-        words::bytes_of(words::block_at(&context.subkeys, 0)),
-    )?;
-    line(
-        rt,
-        b"RFC 4493 K2           ",
-        words::bytes_of(words::block_at(&context.subkeys, 16)),
-    )
-}
-
-// Prints the tag of a message.
-fn tagged(rt: &impl Print, label: &[u8], message: &[u8]) -> io::Result<()> {
-    let table = cmac::table();
-    let context = cmac::context_of(&table, KEY);
-    line(
-        rt,
-        label,
-        cmac::tag(&table, &context.schedule, &context.subkeys, message),
-    )
-}
-
-// Prints a label and 16 bytes in hexadecimal.
-fn line(rt: &impl Print, label: &[u8], bytes: [u8; 16]) -> io::Result<()> {
-    rt.write_all(label)?;
-    let digits = hex::digits(&bytes);
-    rt.write_all(&digits)?;
+// Prints a label and a block in hexadecimal.
+fn line(rt: &impl Print, label: &str, block: Block) -> io::Result<()> {
+    print!(rt; "{label:<22}")?;
+    for byte in <[u8; 16]>::from(block) {
+        print!(rt; "{byte:02x}")?;
+    }
     println!(rt)
 }

@@ -7,6 +7,7 @@ use native.Mathlib.Numerals.{towards_suc}
 use native.Mathlib.Omega.{arith}
 use lib.Arith.{mod-mul}
 use lib.Bits.{bit_xor, xor_shr, xor_mod}
+use Rattle.std.proofs.lemmas.Nat.{shr-shr}
 use lib.ListN.{length, take, drop}
 use lib.Seq.{take-take, take-add, drop-drop, drop-cons}
 use Rattle.words.specs.Bytes.{at, part}
@@ -95,20 +96,6 @@ bytes-mod (suc n) w =
     let q : w % 256 ^ suc n / 256 ≡ w / 256 % 256 ^ n = omega arith in
     ap₂ ◌∷◌ d (ap (bytes n) q ∙ bytes-mod n (w / 256))
 
--- four bytes in a word
-pub bytes-of-four : (a b c d : ℕ) → a < 256 → b < 256 → c < 256 → d < 256
-    → bytes 4 (a + b * 256 + c * 65536 + d * 16777216) ≡ a ∷ b ∷ c ∷ d ∷ []
-bytes-of-four a b c d ha hb hc hd =
-    let w = a + b * 256 + c * 65536 + d * 16777216 in
-    let e0 : w % 256 ≡ a = omega arith in
-    let q1 : w / 256 ≡ b + c * 256 + d * 65536 = omega arith in
-    let q2 : (b + c * 256 + d * 65536) / 256 ≡ c + d * 256 = omega arith in
-    let q3 : (c + d * 256) / 256 ≡ d = omega arith in
-    let e1 : (b + c * 256 + d * 65536) % 256 ≡ b = omega arith in
-    let e2 : (c + d * 256) % 256 ≡ c = omega arith in
-    let e3 : d % 256 ≡ d = omega arith in
-    rw (e0, q1, q2, q3, e1, e2, e3)
-
 -- one byte in a word
 pub bytes-of-byte : (b : ℕ) → b < 256 → bytes 4 b ≡ b ∷ 0 ∷ 0 ∷ 0 ∷ []
 bytes-of-byte b h =
@@ -121,3 +108,11 @@ pub bytes_halves : (w : ℕ) → bytes 4 (w % 4294967296) ++ bytes 4 (w / 429496
 bytes_halves w =
     let e : w % 4294967296 + w / 4294967296 * 4294967296 ≡ w = omega arith in
     sym (bytes-append 4 4 (w % 4294967296) (w / 4294967296) (omega arith)) ∙ ap (bytes 8) e
+
+-- byte i of a word, shifted down
+pub at-bytes : (n w i : ℕ) → i < n → at (bytes n w) i ≡ w / 2 ^ (8 * i) % 256
+at-bytes zero w i h = absurd (omega arith)
+at-bytes (suc n) w zero h = omega arith
+at-bytes (suc n) w (suc i) h =
+    let e : w / 256 / 2 ^ (8 * i) ≡ w / 2 ^ (8 * suc i) = shr-shr w 8 (8 * i) ∙ ap (λ (k : ℕ). w / 2 ^ k) (omega arith) in
+    at-bytes n (w / 256) i (omega arith) ∙ ap (λ (v : ℕ). v % 256) e

@@ -2,3 +2,4 @@ pub mod Bytes
 pub mod Stores
 pub mod Cases
 pub mod Same
+pub mod Endian

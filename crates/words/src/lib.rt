@@ -1,13 +1,15 @@
-// Bytes in machine words, the first byte lowest. Division and remainder say what the compiler turns into shifts and moves.
+// Bytes in machine words, the first byte lowest.
 #![tactic(auto)]
 
-ghost use Rattle.std.specs.Prelude.{◌≡◌, [], ◌∷◌, ◌++◌, reverse, ◌+◌, ◌≤◌, ◌<◌, length};
+ghost use Rattle.std.specs.Prelude.{◌≡◌, refl, ℕ, List, ◌++◌, reverse, ◌+◌, ◌≤◌, ◌<◌, length};
 ghost use Rattle.std.proofs.lemmas.List.Edits.{sets};
 ghost use Rattle.words.specs.Bytes.{at, part, same, xor_block};
 ghost use Rattle.words.specs.Words.{bytes, state_of, block_of};
 
+use std::ops::BitXor;
+
 // A block of 16 bytes: its first eight and its last eight, each in a word.
-#[derive(Clone, Copy)]
+#[derive(Clone, Copy, PartialEq, Eq)]
 pub struct Block {
     pub head: u64,
     pub tail: u64,
@@ -22,36 +24,142 @@ pub struct Columns {
     pub c3: u32,
 }
 
-// The four bytes of a word, as indices.
-pub fn byte0(word: u32) -> usize
-    ensures { result ≡ at (bytes 4 word) 0 }
-{
-    (word % 256) as usize
+// What is read from a string, and put into one, as so many bytes from one of them on.
+pub trait Packed: Sized {
+    ghost size: { ℕ };
+
+    ghost packed: { Self → List ℕ };
+
+    fn at(string: &[u8], start: usize) -> Self
+        requires { start + size ≤ length string.now }
+        ensures { packed result ≡ part string.now start size };
+
+    fn put(self, string: &mut [u8], start: usize)
+        requires { start + size ≤ length string.old }
+        ensures { string.new ≡ sets string.old start (packed self) };
+
+    // Each value has that many bytes.
+    ghost sized: { (x : Self) → length (packed x) ≡ size };
 }
 
-pub fn byte1(word: u32) -> usize
-    ensures { result ≡ at (bytes 4 word) 1 }
-{
-    (word / 256 % 256) as usize
+// A number whose bytes can be turned round.
+pub trait Word: Packed {
+    ghost number: { Self → ℕ };
+
+    // The same with the last byte first.
+    fn reversed(self) -> Self
+        ensures { Self.packed result ≡ reverse (Self.packed self) };
+
+    ghost numbered: { (x : Self) → Self.packed x ≡ bytes Self.size (number x) };
 }
 
-pub fn byte2(word: u32) -> usize
-    ensures { result ≡ at (bytes 4 word) 2 }
-{
-    (word / 65536 % 256) as usize
+impl Packed for u32 {
+    ghost size = { 4 };
+
+    ghost packed = { bytes 4 };
+
+    ghost sized = { λ x. refl };
+
+    fn at(string: &[u8], start: usize) -> u32 {
+        u32::from_le_bytes([
+            string[start],
+            string[start + 1],
+            string[start + 2],
+            string[start + 3],
+        ])
+    }
+
+    fn put(self, string: &mut [u8], start: usize) {
+        put(string, start, &self.to_le_bytes());
+    }
 }
 
-pub fn byte3(word: u32) -> usize
-    ensures { result ≡ at (bytes 4 word) 3 }
-{
-    (word / 16777216) as usize
+impl Packed for u64 {
+    ghost size = { 8 };
+
+    ghost packed = { bytes 8 };
+
+    ghost sized = { λ x. refl };
+
+    fn at(string: &[u8], start: usize) -> u64 {
+        double_word(u32::at(string, start), u32::at(string, start + 4))
+    }
+
+    fn put(self, string: &mut [u8], start: usize) {
+        put(string, start, &self.to_le_bytes());
+    }
 }
 
-// Four bytes in a word.
-pub fn word_of(first: u8, second: u8, third: u8, fourth: u8) -> u32
-    ensures { bytes 4 result ≡ first ∷ second ∷ third ∷ fourth ∷ [] }
+impl Packed for Block {
+    ghost size = { 16 };
+
+    ghost packed = { block_of };
+
+    ghost sized = { λ x. refl };
+
+    fn at(string: &[u8], start: usize) -> Block {
+        Block {
+            head: u64::at(string, start),
+            tail: u64::at(string, start + 8),
+        }
+    }
+
+    fn put(self, string: &mut [u8], start: usize) {
+        self.head.put(string, start);
+        self.tail.put(string, start + 8);
+    }
+}
+
+impl Packed for Columns {
+    ghost size = { 16 };
+
+    ghost packed = { state_of };
+
+    ghost sized = { λ x. refl };
+
+    fn at(string: &[u8], start: usize) -> Columns {
+        Columns {
+            c0: u32::at(string, start),
+            c1: u32::at(string, start + 4),
+            c2: u32::at(string, start + 8),
+            c3: u32::at(string, start + 12),
+        }
+    }
+
+    fn put(self, string: &mut [u8], start: usize) {
+        self.c0.put(string, start);
+        self.c1.put(string, start + 4);
+        self.c2.put(string, start + 8);
+        self.c3.put(string, start + 12);
+    }
+}
+
+impl Word for u32 {
+    ghost number = { λ x. x };
+
+    ghost numbered = { λ x. refl };
+
+    fn reversed(self) -> u32 {
+        self.swap_bytes()
+    }
+}
+
+impl Word for u64 {
+    ghost number = { λ x. x };
+
+    ghost numbered = { λ x. refl };
+
+    fn reversed(self) -> u64 {
+        self.swap_bytes()
+    }
+}
+
+// A byte of a word, as an index.
+pub fn byte(word: u32, index: usize) -> usize
+    requires { index < 4 }
+    ensures { result ≡ at (bytes 4 word) index }
 {
-    first as u32 + second as u32 * 256 + third as u32 * 65536 + fourth as u32 * 16777216
+    (word >> (8 * index) & 0xff) as usize
 }
 
 // Two words in one.
@@ -61,169 +169,66 @@ pub fn double_word(low: u32, high: u32) -> u64
     low as u64 + high as u64 * 4294967296
 }
 
-// A word of four or eight bytes with the last byte first.
-pub fn reversed_word(word: u32) -> u32
-    ensures { bytes 4 result ≡ reverse (bytes 4 word) }
-{
-    word_of(
-        byte3(word) as u8,
-        byte2(word) as u8,
-        byte1(word) as u8,
-        byte0(word) as u8,
-    )
-}
-
-pub fn reversed_double_word(word: u64) -> u64
-    ensures { bytes 8 result ≡ reverse (bytes 8 word) }
-{
-    double_word(
-        reversed_word((word / 4294967296) as u32),
-        reversed_word((word % 4294967296) as u32),
-    )
-}
-
-// The bytes of a string from one of them on, four, eight or 16.
-pub fn word_at(string: &[u8], start: usize) -> u32
-    requires { start + 4 ≤ length string.now }
-    ensures { bytes 4 result ≡ part string.now start 4 }
-{
-    word_of(
-        string[start],
-        string[start + 1],
-        string[start + 2],
-        string[start + 3],
-    )
-}
-
-pub fn double_word_at(string: &[u8], start: usize) -> u64
-    requires { start + 8 ≤ length string.now }
-    ensures { bytes 8 result ≡ part string.now start 8 }
-{
-    double_word(word_at(string, start), word_at(string, start + 4))
-}
-
-pub fn block_at(string: &[u8], start: usize) -> Block
-    requires { start + 16 ≤ length string.now }
-    ensures { block_of result ≡ part string.now start 16 }
-{
-    Block {
-        head: double_word_at(string, start),
-        tail: double_word_at(string, start + 8),
-    }
-}
-
-pub fn columns_at(string: &[u8], start: usize) -> Columns
-    requires { start + 16 ≤ length string.now }
-    ensures { state_of result ≡ part string.now start 16 }
-{
-    Columns {
-        c0: word_at(string, start),
-        c1: word_at(string, start + 4),
-        c2: word_at(string, start + 8),
-        c3: word_at(string, start + 12),
-    }
-}
-
 // Two blocks, byte by byte.
-pub fn xored(left: Block, right: Block) -> Block
-    ensures { block_of result ≡ xor_block (block_of left) (block_of right) }
-{
-    Block {
-        head: left.head ^ right.head,
-        tail: left.tail ^ right.tail,
+impl BitXor for Block {
+    type Output = Block;
+
+    ghost bitxor_gives = { λ left right result. block_of result ≡ xor_block (block_of left) (block_of right) };
+
+    fn bitxor(self, right: Block) -> Block {
+        Block {
+            head: self.head ^ right.head,
+            tail: self.tail ^ right.tail,
+        }
     }
 }
 
-// A block as columns, and columns as a block.
-pub fn split(block: Block) -> Columns
-    ensures { state_of result ≡ block_of block }
-{
-    Columns {
-        c0: (block.head % 4294967296) as u32,
-        c1: (block.head / 4294967296) as u32,
-        c2: (block.tail % 4294967296) as u32,
-        c3: (block.tail / 4294967296) as u32,
+// A block as columns, columns as a block, and a block as its 16 bytes.
+impl From<Block> for Columns {
+    ghost from_gives = { λ block result. state_of result ≡ block_of block };
+
+    fn from(block: Block) -> Columns {
+        Columns {
+            c0: (block.head % 4294967296) as u32,
+            c1: (block.head / 4294967296) as u32,
+            c2: (block.tail % 4294967296) as u32,
+            c3: (block.tail / 4294967296) as u32,
+        }
     }
 }
 
-pub fn joined(columns: Columns) -> Block
-    ensures { block_of result ≡ state_of columns }
-{
-    Block {
-        head: double_word(columns.c0, columns.c1),
-        tail: double_word(columns.c2, columns.c3),
+impl From<Columns> for Block {
+    ghost from_gives = { λ columns result. block_of result ≡ state_of columns };
+
+    fn from(columns: Columns) -> Block {
+        Block {
+            head: double_word(columns.c0, columns.c1),
+            tail: double_word(columns.c2, columns.c3),
+        }
     }
 }
 
-// A block as its 16 bytes.
-pub fn bytes_of(block: Block) -> [u8; 16]
-    ensures { result ≡ block_of block }
-{
-    let s = split(block);
-    [
-        byte0(s.c0) as u8,
-        byte1(s.c0) as u8,
-        byte2(s.c0) as u8,
-        byte3(s.c0) as u8,
-        byte0(s.c1) as u8,
-        byte1(s.c1) as u8,
-        byte2(s.c1) as u8,
-        byte3(s.c1) as u8,
-        byte0(s.c2) as u8,
-        byte1(s.c2) as u8,
-        byte2(s.c2) as u8,
-        byte3(s.c2) as u8,
-        byte0(s.c3) as u8,
-        byte1(s.c3) as u8,
-        byte2(s.c3) as u8,
-        byte3(s.c3) as u8,
-    ]
+impl From<Block> for [u8; 16] {
+    ghost from_gives = { λ block result. result ≡ block_of block };
+
+    fn from(block: Block) -> [u8; 16] {
+        let mut bytes = [0u8; 16];
+        block.put(&mut bytes, 0);
+        bytes
+    }
 }
 
-// Whether two blocks have the same bytes.
+// Whether two blocks have the same bytes. The derived `==` says it of the words; this says it of the bytes, as the definitions do.
 pub fn equal(left: Block, right: Block) -> bool
     ensures { result ≡ same (block_of left) (block_of right) }
 {
-    left.head == right.head && left.tail == right.tail
+    left == right
 }
 
-// Puts a word of four or eight bytes, a block, or another string into a string from one of its bytes on.
-pub fn put_word(string: &mut [u8], start: usize, word: u32)
-    requires { start + 4 ≤ length string.old }
-    ensures { string.new ≡ sets string.old start (bytes 4 word) }
-{
-    string[start] = byte0(word) as u8;
-    string[start + 1] = byte1(word) as u8;
-    string[start + 2] = byte2(word) as u8;
-    string[start + 3] = byte3(word) as u8;
-}
-
-pub fn put_double_word(string: &mut [u8], start: usize, word: u64)
-    requires { start + 8 ≤ length string.old }
-    ensures { string.new ≡ sets string.old start (bytes 8 word) }
-{
-    put_word(string, start, (word % 4294967296) as u32);
-    put_word(string, start + 4, (word / 4294967296) as u32);
-}
-
-pub fn put_block(string: &mut [u8], start: usize, block: Block)
-    requires { start + 16 ≤ length string.old }
-    ensures { string.new ≡ sets string.old start (block_of block) }
-{
-    let k = split(block);
-    put_word(string, start, k.c0);
-    put_word(string, start + 4, k.c1);
-    put_word(string, start + 8, k.c2);
-    put_word(string, start + 12, k.c3);
-}
-
+// Puts another string into a string from one of its bytes on. The slice and the copy stand here once, with the definitions' `sets`.
 pub fn put(string: &mut [u8], start: usize, piece: &[u8])
     requires { start + length piece.now ≤ length string.old }
     ensures { string.new ≡ sets string.old start piece.now }
 {
-    let mut i: usize = 0;
-    while i < piece.len() {
-        string[start + i] = piece[i];
-        i += 1;
-    }
+    string[start..start + piece.len()].copy_from_slice(piece);
 }

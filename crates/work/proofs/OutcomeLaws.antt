@@ -1,15 +1,16 @@
 -- How the code comes to an outcome once the limits are passed: by the first wrong tag, and by what it counted until then and after.
 use mathlib.Core.Path.{◌≡◌, refl, sym, ap, ap₂, ◌∙◌}
-use mathlib.Core.List.{List, [], ◌∷◌, ◌++◌, map}
+use mathlib.Core.Bool.{cond}
+use mathlib.Core.List.{List, [], ◌++◌, map}
 use mathlib.Core.Option.{Option, none, some}
 use Prim.Native.Nat.{ℕ, ◌+◌, ◌^◌, ◌≤◌}
 use native.Mathlib.Nat.{add-zero, add_assoc}
 use native.Mathlib.Omega.{arith}
-use types.Run.{OneOf, miss}
-use denote.Enum.Declared.{tag_of}
+use Rattle.std.specs.Prelude.{Result, Ok, Err}
+use Rattle.std.specs.Result.{is_ok}
 use Rattle.cmac.specs.Cmac.{cmac_of}
-use Rattle.cmac.specs.Context.{ContextOf, tag_under}
-use Rattle.cmac.specs.Traced.{subkeys_count, cmac_count, count_under}
+use Rattle.cmac.specs.Context.{ContextOf, tag_by, count_by}
+use Rattle.cmac.specs.Traced.{subkeys_count, cmac_count}
 use Rattle.cmac.specs.declared.Context.{Context}
 use Rattle.cmac.proofs.Laws.{tags-of-context}
 use Rattle.cmac.proofs.TraceLaws.{count-17, count-73, counts-of-context}
@@ -22,9 +23,11 @@ use Rattle.tree.specs.Limits.{first_failing}
 use Rattle.tree.specs.Calls.{Call, read, write, check, wipe, lent_to, limits, checks, tagged, verdict, total, Reports, rooted, answer_of}
 use Rattle.tree.specs.Calls.{checked_by, settled, outcome}
 use Rattle.tree.specs.declared.Anchor.{Anchor}
-use Rattle.tree.specs.declared.Answer.{Answer}
-use Rattle.tree.specs.declared.Answer.TheVariants.{Whole}
-use Rattle.tree.specs.contracts.Answer as T
+use Rattle.tree.specs.declared.Refusal.{Refusal}
+use Rattle.tree.specs.declared.Error.{Error}
+use Rattle.tree.specs.declared.Error.TheVariants.{WrongTag, Limit}
+use Rattle.tree.specs.Answer.{Answer}
+use Rattle.tree.specs.Answer.{Whole, Wrong, Refused, answer_in, refused_as}
 use Rattle.tree.proofs.LayoutLaws.{few-leaves}
 use Rattle.tree.proofs.LimitLaws.{Passes, passes-sound}
 use Rattle.tree.proofs.CountLaws.{total-append, checked-most}
@@ -55,11 +58,11 @@ few-blank key n t h l =
 
 -- What was found and counted under a context is so under its key.
 module _ (key : List ℕ) (x : Context) (made : ContextOf key x) (n t : ℕ) (card us : List ℕ) where
-  pub found_of : {r : Answer} → r ≡ verdict none (first_wrong (tag_under x.schedule x.subkeys) n t card us)
+  pub found_of : {r : Answer} → r ≡ verdict none (first_wrong (tag_by x) n t card us)
       → r ≡ verdict none (first_wrong (cmac_of key) n t card us)
   found_of e = e ∙ ap (λ (F : List ℕ → List ℕ). verdict none (first_wrong F n t card us)) (tags-of-context key x made)
 
-  pub count_of_lem : {k : ℕ} → k ≡ total (count_under x.schedule x.subkeys) (checked (tag_under x.schedule x.subkeys) n t card us)
+  pub count_of_lem : {k : ℕ} → k ≡ total (count_by x) (checked (tag_by x) n t card us)
       → x.count + k ≡ subkeys_count key + total (cmac_count key) (checked (cmac_of key) n t card us)
   count_of_lem e =
       ap₂ ◌+◌ made.counted
@@ -89,47 +92,43 @@ module _ (a : Anchor) (card : List ℕ) where
   unfolding outcome answer_of
   settles c x e f = rw (e, f)
 
-  -- an answer that is not whole
-  wrong : (c : Call) (w : Option ℕ) (k : ℕ) → OneOf (1 ∷ 2 ∷ []) (tag_of T.the_type (verdict none w))
-      → outcome F a card c ≡ settled F (verdict none w) a card c → k ≡ once + total each (checked_by F a card c)
-      → Told c (verdict none w) k a card (lent_to c)
-  wrong c none k o e q = absurd (miss (1 ∷ 2 ∷ []) 0 tt o)
-  wrong c (some u) k o e q =
-      rw e (record { gives = record { answered = refl; anchored = refl; left = refl; filled = refl }; counted = q })
+  -- where no limit fails, the answer is no refusal
+  never : (r : Refusal) (w : Option ℕ) → Refused r ≡ verdict none w → ⊥
+  never r none e = cc
+  never r (some u) e = cc
 
-  pub reports-wrong : (c : Call) (x : Answer) (k : ℕ) → first_failing (limits a card c) ≡ none
-      → x ≡ verdict none (first_wrong F a.depth a.root.0 card (checks a.depth c)) → OneOf (1 ∷ 2 ∷ []) (tag_of T.the_type x)
-      → k ≡ once + total each (checked_by F a card c) → Told c x k a card (lent_to c)
-  reports-wrong c x k e v o q =
-      rw v (wrong c (first_wrong F a.depth a.root.0 card (checks a.depth c)) k (rw v at o) (rw v at (settles c x e v)) q)
+  -- a wrong tag: everything is as it was
+  pub reports-wrong : (c : Call) (x : Error) (k : ℕ) → first_failing (limits a card c) ≡ none
+      → refused_as x ≡ verdict none (first_wrong F a.depth a.root.0 card (checks a.depth c))
+      → k ≡ once + total each (checked_by F a card c) → Told c (refused_as x) k a card (lent_to c)
+  reports-wrong c (WrongTag u) k e v q =
+      rw (settles c (Wrong u) e v)
+      (record { gives = record { answered = refl; anchored = refl; left = refl; filled = refl }; counted = q })
+  reports-wrong c (Limit r) k e v q = absurd (never r (first_wrong F a.depth a.root.0 card (checks a.depth c)) v)
 
   -- a check leaves everything, whatever it answers
-  whole-or-wrong : (w : Option ℕ) (k : ℕ) → outcome F a card check ≡ settled F (verdict none w) a card check
-      → k ≡ once + total each (checked_by F a card check) → Told check (verdict none w) k a card []
-  whole-or-wrong none k e q =
-      rw e (record {
+  pub reports-check : (x : Result Unit Error) (k : ℕ) → first_failing (limits a card check) ≡ none
+      → answer_in x ≡ verdict none (first_wrong F a.depth a.root.0 card (checks a.depth check))
+      → k ≡ once + total each (checked_by F a card check) → Told check (answer_in x) k a card []
+  reports-check (Ok x) k e v q =
+      rw (settles check Whole e v) (record {
         gives = record { answered = refl; anchored = refl; left = refl; filled = refl };
         counted = q ∙ sym (nothing-more (checked_by F a card check));
       })
-  whole-or-wrong (some u) k e q =
-      rw e (record { gives = record { answered = refl; anchored = refl; left = refl; filled = refl }; counted = q })
-
-  pub reports-check : (x : Answer) (k : ℕ) → first_failing (limits a card check) ≡ none
-      → x ≡ verdict none (first_wrong F a.depth a.root.0 card (checks a.depth check))
-      → k ≡ once + total each (checked_by F a card check) → Told check x k a card []
-  reports-check x k e v q =
-      rw v (whole-or-wrong (first_wrong F a.depth a.root.0 card (checks a.depth check)) k (rw v at (settles check x e v)) q)
+  reports-check (Err x) k e v q = reports-wrong check x k e v q
 
   -- a read that is whole gives the block, and a write the card, the anchor and the ranges
-  pub reports-read : (i : ℕ) (buffer : List ℕ) (k : ℕ) (lent : List ℕ) → first_failing (limits a card (read i buffer)) ≡ none
-      → Whole ≡ verdict none (first_wrong F a.depth a.root.0 card (checks a.depth (read i buffer)))
-      → k ≡ once + total each (checked_by F a card (read i buffer)) → lent ≡ label a.depth card (2 ^ a.depth + i)
-      → Told (read i buffer) Whole k a card lent
-  reports-read i buffer k lent e v q f =
+  pub reports-read : (i : ℕ) (buffer : List ℕ) (x : Result Unit Error) (k : ℕ) (lent : List ℕ)
+      → first_failing (limits a card (read i buffer)) ≡ none
+      → answer_in x ≡ verdict none (first_wrong F a.depth a.root.0 card (checks a.depth (read i buffer)))
+      → k ≡ once + total each (checked_by F a card (read i buffer))
+      → lent ≡ cond (is_ok x) (label a.depth card (2 ^ a.depth + i)) buffer → Told (read i buffer) (answer_in x) k a card lent
+  reports-read i buffer (Ok x) k lent e v q f =
       rw (settles (read i buffer) Whole e v) (record {
         gives = record { answered = refl; anchored = refl; left = refl; filled = f };
         counted = q ∙ sym (nothing-more (checked_by F a card (read i buffer)));
       })
+  reports-read i buffer (Err x) k lent e v q f = rw f (reports-wrong (read i buffer) x k e v q)
 
   pub reports-write : (i : ℕ) (block ranges : List ℕ) (k : ℕ) (b : Anchor) (card' lent : List ℕ) →
       let c = write i block ranges in

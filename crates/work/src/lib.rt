@@ -2,89 +2,81 @@
 // is that of the context and of every tag made.
 #![tactic(auto)]
 
-ghost use Rattle.std.specs.Prelude.{◌≡◌, [], map, ◌+◌, ◌^◌, ◌<◌, length};
+ghost use Rattle.std.specs.Prelude.{◌≡◌, [], map, ◌+◌, ◌^◌, ◌<◌};
+ghost use Rattle.std.specs.Result.{result_unwrap_or};
 ghost use Rattle.std.proofs.Math.Option.{none};
 ghost use Rattle.cmac.specs.Cmac.{cmac_of};
 ghost use Rattle.cmac.specs.Traced.{subkeys_count, cmac_count};
-ghost use Rattle.tree.specs.Layout.{IsCard, label};
+ghost use Rattle.tree.specs.Layout.{IsCard};
 ghost use Rattle.tree.specs.Nodes.{all_nodes};
 ghost use Rattle.tree.specs.Labels.{message, blank_labels};
 ghost use Rattle.tree.specs.Card.{blanked};
 ghost use Rattle.tree.specs.Limits.{first_failing};
+ghost use Rattle.tree.specs.Answer.{Whole, answer_in};
 ghost use Rattle.tree.specs.Calls.{Reports, read, write, check, wipe, limits, total, rooted, outcome};
 
-use card::walk;
-use tree::{Anchor, Answer, BlockIndex, Node, Nonce, Reply, Report, layout, ranges};
+use card::{BlockView, CardView, walk};
+use cmac::Context;
+use cmac::counted::Counted;
+use tree::{Anchor, BlockIndex, Depth, Error, Nonce, ranges};
 
-// Makes an empty card for the anchor that a format or a wipe gives.
+// Makes an empty card for the anchor that a format or a wipe gives. `IsCard` is asked as in stamp, which writes the card.
 pub fn blank(anchor: Anchor, card: &mut [u8]) -> u64
     requires { IsCard anchor.depth card.old }
     ensures card_after { card.new ≡ blanked (cmac_of anchor.key) anchor.depth anchor.root.0 card.old }
     ensures value { result ≡ subkeys_count anchor.key
         + total (cmac_count anchor.key) (map (message (blank_labels anchor.depth anchor.root.0)) (all_nodes anchor.depth)) }
 {
-    let depth = anchor.depth;
-    let key = anchor.key;
-    let root = anchor.root;
-    let table = cmac::table();
-    let context = cmac::context_of(&table, key);
-    let count = stamp::blank(
-        &table,
-        &context.schedule,
-        &context.subkeys,
-        depth,
-        root,
-        card,
-    );
-    context.count + count
+    let depth = Depth {
+        levels: anchor.depth,
+    };
+    let context = Context::new(anchor.key);
+    context.count + stamp::blank(&context, depth, anchor.root, card)
 }
 
-// Read.
-pub fn read(anchor: Anchor, card: &[u8], index: BlockIndex, buffer: &mut [u8]) -> Report
-    requires { first_failing (limits anchor card.now (read index.0 buffer.old)) ≡ none }
-    ensures { Reports (subkeys_count anchor.key) (cmac_count anchor.key)
-        (outcome (cmac_of anchor.key) anchor card.now (read index.0 buffer.old))
-        result.answer result.count anchor card.now buffer.new }
+// A block of the anchor's card. Its facts are asked here and stand in the view's type from here on.
+fn block_of<'a>(anchor: Anchor, card: &'a [u8], index: BlockIndex) -> BlockView<'a>
+    requires card { IsCard anchor.depth card.now }
+    requires index_bound { index.0 < 2 ^ anchor.depth }
+    ensures depth { result.card.depth.levels ≡ anchor.depth }
+    ensures root { result.card.root ≡ anchor.root }
+    ensures bytes { result.card.bytes.now ≡ card.now }
+    ensures index { result.index ≡ index }
 {
-    let depth = anchor.depth;
-    let key = anchor.key;
-    let root = anchor.root;
-    let table = cmac::table();
-    let context = cmac::context_of(&table, key);
-    let found = walk::path(
-        &table,
-        &context.schedule,
-        &context.subkeys,
-        depth,
-        root,
-        card,
+    BlockView {
+        card: CardView {
+            depth: Depth {
+                levels: anchor.depth,
+            },
+            root: anchor.root,
+            bytes: card,
+        },
         index,
-    );
-    let count = context.count + found.count;
-    let answer = found.answer;
-    let Answer::Whole = answer else {
-        return Report {
-            answer: answer,
-            count: count,
-        };
-    };
-    copy_block(depth, card, index, buffer);
-    Report {
-        answer: Answer::Whole,
-        count: count,
     }
 }
 
-// Copies a block into the buffer.
-fn copy_block(depth: u64, card: &[u8], index: BlockIndex, buffer: &mut [u8])
-    requires card { IsCard depth card.now }
-    requires index_bound { index.0 < 2 ^ depth }
-    requires buffer_len { length buffer.old ≡ 64 }
-    ensures { buffer.new ≡ label depth card.now (2 ^ depth + index.0) }
+// Read.
+pub fn read(
+    anchor: Anchor,
+    card: &[u8],
+    index: BlockIndex,
+    buffer: &mut [u8],
+) -> Counted<Result<(), Error>>
+    requires { first_failing (limits anchor card.now (read index.0 buffer.old)) ≡ none }
+    ensures { Reports (subkeys_count anchor.key) (cmac_count anchor.key)
+        (outcome (cmac_of anchor.key) anchor card.now (read index.0 buffer.old))
+        (answer_in result.value) result.count anchor card.now buffer.new }
 {
-    let start = layout::offset(depth, Node(layout::leaves(depth) + index.0));
-    let end = start + 64;
-    words::put(buffer, 0, &card[start..end]);
+    let block = block_of(anchor, card, index);
+    let context = Context::new(anchor.key);
+    let found = walk::path(&context, &block);
+    if found.value.is_ok() {
+        words::put(buffer, 0, block.bytes());
+    }
+    Counted {
+        value: found.value,
+        count: context.count + found.count,
+    }
 }
 
 // Write.
@@ -94,96 +86,65 @@ pub fn write(
     index: BlockIndex,
     block: &[u8],
     ranges: &mut [u8],
-) -> Reply
+) -> Counted<Result<Anchor, Error>>
     requires { first_failing (limits anchor card.old (write index.0 block.now ranges.old)) ≡ none }
     ensures { Reports (subkeys_count anchor.key) (cmac_count anchor.key)
         (outcome (cmac_of anchor.key) anchor card.old (write index.0 block.now ranges.old))
-        result.answer result.count result.anchor card.new ranges.new }
+        (answer_in result.value) result.count (result_unwrap_or result.value anchor) card.new ranges.new }
 {
-    let depth = anchor.depth;
-    let key = anchor.key;
-    let root = anchor.root;
-    let table = cmac::table();
-    let context = cmac::context_of(&table, key);
-    let found = walk::pairs(
-        &table,
-        &context.schedule,
-        &context.subkeys,
-        depth,
-        root,
-        card,
-        index,
-    );
-    let checked = context.count + found.count;
-    let answer = found.answer;
-    let Answer::Whole = answer else {
-        return Reply {
-            answer: answer,
-            anchor: anchor,
-            count: checked,
+    let seen = block_of(anchor, card, index);
+    let path = seen.path();
+    let context = Context::new(anchor.key);
+    let found = walk::pairs(&context, &seen);
+    let count = context.count + found.count;
+    if let Err(error) = found.value {
+        return Counted {
+            value: Err(error),
+            count,
         };
-    };
-    let tagged = stamp::block(
-        &table,
-        &context.schedule,
-        &context.subkeys,
-        depth,
-        root,
-        card,
-        index,
-        block,
-    );
-    let count = checked + tagged;
-    ranges::fill(depth, index, ranges);
-    let written = moved(anchor);
-    Reply {
-        answer: Answer::Whole,
-        anchor: written,
-        count: count,
+    }
+    let tagged = stamp::block(&context, path, anchor.root, card, block);
+    ranges::fill(path, ranges);
+    Counted {
+        value: Ok(moved(anchor)),
+        count: count + tagged,
     }
 }
 
 // Check.
-pub fn check(anchor: Anchor, card: &[u8]) -> Report
+pub fn check(anchor: Anchor, card: &[u8]) -> Counted<Result<(), Error>>
     requires { first_failing (limits anchor card.now check) ≡ none }
     ensures { Reports (subkeys_count anchor.key) (cmac_count anchor.key)
         (outcome (cmac_of anchor.key) anchor card.now check)
-        result.answer result.count anchor card.now [] }
+        (answer_in result.value) result.count anchor card.now [] }
 {
-    let depth = anchor.depth;
-    let key = anchor.key;
-    let root = anchor.root;
-    let table = cmac::table();
-    let context = cmac::context_of(&table, key);
-    let found = walk::all(
-        &table,
-        &context.schedule,
-        &context.subkeys,
-        depth,
-        root,
-        card,
-    );
-    let count = context.count + found.count;
-    let answer = found.answer;
-    Report {
-        answer: answer,
-        count: count,
+    let card = CardView {
+        depth: Depth {
+            levels: anchor.depth,
+        },
+        root: anchor.root,
+        bytes: card,
+    };
+    let context = Context::new(anchor.key);
+    let found = walk::all(&context, &card);
+    Counted {
+        value: found.value,
+        count: context.count + found.count,
     }
 }
 
 // Wipe.
-pub fn wipe(anchor: Anchor, card: &mut [u8]) -> Reply
+pub fn wipe(anchor: Anchor, card: &mut [u8]) -> Counted<Anchor>
     requires { first_failing (limits anchor card.old wipe) ≡ none }
     ensures { Reports (subkeys_count anchor.key) (cmac_count anchor.key)
         (outcome (cmac_of anchor.key) anchor card.old wipe)
-        result.answer result.count result.anchor card.new [] }
+        Whole result.count result.value card.new [] }
 {
     let wiped = moved(anchor);
     let count = blank(wiped, card);
-    Reply {
-        answer: Answer::Whole,
-        anchor: wiped,
-        count: count,
+    Counted {
+        value: wiped,
+        count,
     }
 }
 
@@ -192,12 +153,8 @@ fn moved(anchor: Anchor) -> Anchor
     requires { anchor.root.0 + anchor.depth < 2 ^ 64 }
     ensures { result ≡ rooted anchor (anchor.root.0 + anchor.depth) }
 {
-    let depth = anchor.depth;
-    let key = anchor.key;
-    let root = anchor.root;
     Anchor {
-        key: key,
-        depth: depth,
-        root: Nonce(root.0 + depth),
+        root: Nonce(anchor.root.0 + anchor.depth),
+        ..anchor
     }
 }

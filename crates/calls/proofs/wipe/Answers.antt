@@ -1,23 +1,16 @@
--- The first limits refuse, or leave the wipe's own to decide.
+-- The limits of a wipe, tested in one row, decide.
 use Rattle.std.proofs.Common.{sym, ◌∙◌}
-use Rattle.tree.specs.Calls.{wipe}
-use Rattle.tree.proofs.LimitLaws.{no-limits, skip, stop}
-use Rattle.tree.proofs.AnswerLaws.{other_than_whole}
-use Rattle.calls.proofs.OutcomeLaws.{refuses, reports-first, own-decide}
+use Rattle.tree.specs.Calls.{wipe, limits}
+use Rattle.tree.proofs.LimitLaws.{none-failing}
+use Rattle.calls.proofs.OutcomeLaws.{reports-limited}
 use Rattle.calls.proofs.wipe.Goals as goal
 
-pub returns-in_default : goal.returns-in_default
-returns-in_default c =
-    reports-first c.args.anchor c.args.card.now wipe _ c.first-tested.ensures (other_than_whole _ c.in_default.not-Whole)
+pub wipe-wiped-requires : goal.wipe-wiped-requires
+unfolding limits
+wipe-wiped-requires c = none-failing _ (sym c.wipe_limits.ensures ∙ c.in-Ok.is)
 
-pub returns-in_default-nonces_spent : goal.returns-in_default-nonces_spent
-returns-in_default-nonces_spent c =
-    rw (c.refused.ensures.answer_value, c.refused.ensures.anchor_value, c.refused.ensures.count_value)
-    (refuses c.args.anchor c.args.card.now wipe _
-    (own-decide c.args.anchor c.args.card.now c.first-tested.ensures c.in-Whole.is wipe
-    ∙ stop _ _ (sym c.in_default-nonces_spent.ensures)))
-
-pub wipe-requires : goal.wipe-requires
-wipe-requires c =
-    own-decide c.args.anchor c.args.card.now c.first-tested.ensures c.in-Whole.is wipe ∙ skip _ _ (sym c.in-Passed.ensures)
-    ∙ no-limits
+pub returns-in-Err : goal.returns-in-Err
+unfolding limits
+returns-in-Err c =
+    rw (c.refused.ensures.value, c.refused.ensures.count)
+    (reports-limited c.args.anchor c.args.card.now wipe (sym c.wipe_limits.ensures ∙ c.in-Err.is))

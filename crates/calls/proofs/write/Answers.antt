@@ -1,16 +1,17 @@
 -- The limits of a write, tested in one row, decide.
+use Rattle.std.proofs.Common.{sym, ◌∙◌}
 use Rattle.tree.specs.Calls.{write, limits}
-use Rattle.tree.proofs.AnswerLaws.{none_first}
-use Rattle.tree.proofs.AnswerLaws.{other_than_whole}
+use Rattle.tree.proofs.LimitLaws.{none-failing}
 use Rattle.calls.proofs.OutcomeLaws.{reports-limited}
 use Rattle.calls.proofs.write.Goals as goal
 
-pub returns-in_default : goal.returns-in_default
+pub write-requires-in-Ok : goal.write-requires-in-Ok
 unfolding limits
-returns-in_default c =
-    reports-limited c.args.anchor c.args.card.now (write c.args.index.0 c.args.block.now c.args.ranges.now) _
-    c.write-limited.ensures (other_than_whole _ c.in_default.not-Whole)
+write-requires-in-Ok c = none-failing _ (sym c.write.ensures ∙ c.in-Ok.is)
 
-pub write-requires : goal.write-requires
+pub returns-in-Err : goal.returns-in-Err
 unfolding limits
-write-requires c = none_first _ c.write-limited.ensures c.in-Whole.is
+returns-in-Err c =
+    rw (c.refused.ensures.value, c.refused.ensures.count)
+    (reports-limited c.args.anchor c.args.card.now (write c.args.index.0 c.args.block.now c.args.ranges.now)
+    (sym c.write.ensures ∙ c.in-Err.is))

@@ -1,4 +1,4 @@
-use Rattle.std.proofs.Common.{◌≡◌, sym, subst, ◌∙◌, ℕ, arith, rules, add-one}
+use Rattle.std.proofs.Common.{◌≡◌, sym, subst, ◌∙◌, ℕ, arith, add-one}
 use mathlib.Core.List.Memᴰ
 use mathlib.Core.List.{Memᴰ}
 use Rattle.tree.specs.Nodes.{up_to}
@@ -9,28 +9,26 @@ use Rattle.plan.proofs.place.Goals as goal
 
 pub loop-level-init : goal.loop-level-init
 unfolding up_to
-loop-level-init c = (search rules, λ m. Memᴰ.not-nil m)
+loop-level-init c = λ m. Memᴰ.not-nil m
 
-pub returns-then-node-parent : goal.returns-then-node-parent
-returns-then-node-parent c =
-    sym (place_is c.args.depth c.args.index.0 c.requires.index_bound c.args.node.0 c.loop-level.level (omega arith) (omega arith))
+pub returns-then-node-clause-place : goal.returns-then-node-clause-place
+returns-then-node-clause-place c =
+    let p = c.args.path in
+    sym (place_is p.depth.levels p.index.0 p.on_card c.args.node.0 c.loop-level.level (omega arith) (omega arith))
 
 pub loop-level-preserved : goal.loop-level-preserved
-loop-level-preserved c =
-    let n = c.args.depth in
-    let i = c.args.index.0 in (
-      omega arith,
-      λ m.
-          not_yet n i c.requires.index_bound c.loop-level.level c.args.node.0 (omega arith) c.loop-level.invariant.1
-          (λ e. omega arith)
-          (subst (λ (k : ℕ). Memᴰ c.args.node.0 (up_to k (rising_pair n i))) (add-one c.loop-level.level) m),
-    )
+loop-level-preserved c m =
+    let p = c.args.path in
+    not_yet p.depth.levels p.index.0 p.on_card c.loop-level.level c.args.node.0 (omega arith) c.loop-level.invariant
+    (λ e. omega arith)
+    (subst (λ (k : ℕ). Memᴰ c.args.node.0 (up_to k (rising_pair p.depth.levels p.index.0))) (add-one c.loop-level.level) m)
 
-pub returns : goal.returns
+pub returns-clause-place : goal.returns-clause-place
 unfolding plan_nodes
-returns c =
-    let a = c.args in
-    let e : c.loop-level.level ≡ a.depth = omega arith in
-    sym (place_none (plan_nodes a.depth a.index.0) a.node.0
-    (subst (λ (k : ℕ). Memᴰ a.node.0 (up_to k (rising_pair a.depth a.index.0)) → ⊥) e c.loop-level.invariant.1)
-    ∙ plan-count a.depth a.index.0)
+returns-clause-place c =
+    let p = c.args.path in
+    let n = p.depth.levels in
+    let e : c.loop-level.level ≡ n = omega arith in
+    sym (place_none (plan_nodes n p.index.0) c.args.node.0
+    (subst (λ (k : ℕ). Memᴰ c.args.node.0 (up_to k (rising_pair n p.index.0)) → ⊥) e c.loop-level.invariant)
+    ∙ plan-count n p.index.0)

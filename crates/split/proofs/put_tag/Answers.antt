@@ -1,36 +1,32 @@
--- Limits 1 to 3 are passed where the first answer is whole; what the plan waits for is a node of the card.
-use Rattle.std.proofs.Common.{◌≡◌, sym, ap, ap₂, subst, ◌∙◌, cond, List, [], ◌∷◌, ℕ, ◌+◌, ◌^◌, ◌<◌, length, arith}
+-- Limits 1 to 3 are passed where the first tests are; what the plan waits for is a node of the card.
+use Rattle.std.proofs.Common.{◌≡◌, Bool, true, false, refl, sym, ap, subst, ◌∙◌, cond, List, [], ◌∷◌, ℕ, ◌+◌, ◌^◌, ◌<◌, Ok, Err, length, arith}
 use Rattle.std.proofs.lemmas.List.Edits.{sets}
-use mathlib.Core.Option.{none}
-use Rattle.tree.specs.Layout.{IsNode}
-use Rattle.tree.specs.Limits.{first_failing}
-use Rattle.tree.specs.Calls.{first_limits, verdict, rooted}
-use Rattle.tree.specs.Tests.{passing}
+use borrow.Author.Tests.{not-false}
+use Rattle.tree.specs.Layout.{IsNode, size, offset}
+use Rattle.tree.specs.Answer.{Whole}
+use Rattle.tree.specs.Calls.{first_limits, rooted}
+use Rattle.tree.specs.Tests.{tested}
 use Rattle.tree.specs.declared.Anchor.{Anchor}
-use Rattle.tree.specs.declared.Answer.{Answer}
-use Rattle.tree.specs.declared.Answer.TheVariants.{Whole}
-use Rattle.tree.specs.declared.limits.Test.{Test}
-use Rattle.tree.specs.declared.limits.Test.TheVariants.{Passed}
 use Rattle.tree.proofs.LayoutLaws.{entry-on}
-use Rattle.tree.proofs.LimitLaws.{Sound, first-passed, sound-card}
-use Rattle.tree.proofs.AnswerLaws.{refused-first, none_first, other_than_whole}
-use Rattle.card.proofs.WalkLaws.{was-passed, was-failed}
+use Rattle.tree.proofs.LimitLaws.{Sound, first-passed, sound-card, none-failing, passes, tested-then, tested-stop}
 use Rattle.plan.specs.Places.{awaits, fill, full}
-use Rattle.plan.specs.Split.{place_limit, put_answer}
+use Rattle.plan.specs.Split.{place_limit, put, Puts}
 use Rattle.plan.specs.declared.Plan.{Plan}
 use Rattle.plan.proofs.PlaceLaws.{Awaited, awaited, plan-node}
 use Rattle.plan.proofs.PutLaws.{put-accept}
-use Rattle.split.proofs.OutcomeLaws.{put-limited, not-awaited, put_whole}
+use Rattle.split.proofs.OutcomeLaws.{put-limited, put_whole}
 use Rattle.split.proofs.put_tag.Goals as goal
 
 -- 1, 2 and 3 are passed
-sound : (a : Anchor) (card : List ℕ) {x : Answer} → x ≡ verdict (first_failing (first_limits a (length card))) none → x ≡ Whole
-    → Sound a.depth a.root.0 card
-sound a card e w = first-passed a card (none_first (first_limits a (length card)) e w)
+sound : (a : Anchor) (card : List ℕ) {x : Unit} → tested (first_limits a (length card)) ≡ Ok x → Sound a.depth a.root.0 card
+sound a card e = first-passed a card (none-failing (first_limits a (length card)) e)
 
 -- 9 is passed too
-waits : (n : ℕ) (p : Plan) (u : ℕ) {r : Test} → r ≡ passing (awaits n p u) → r ≡ Passed → Awaited n p u
-waits n p u e w = awaited n p u (was-passed (awaits n p u) e w)
+waited : (n : ℕ) (p : Plan) (u : ℕ) {x : Unit} → tested (place_limit n p u ∷ []) ≡ Ok x → awaits n p u ≡ true
+waited n p u e = not-false (awaits n p u) (passes (place_limit n p u) [] (none-failing (place_limit n p u ∷ []) e)).0
+
+waits : (n : ℕ) (p : Plan) (u : ℕ) {x : Unit} → tested (place_limit n p u ∷ []) ≡ Ok x → Awaited n p u
+waits n p u e = awaited n p u (waited n p u e)
 
 is-node : (n : ℕ) (p : Plan) (u : ℕ) → Awaited n p u → IsNode n u
 is-node n p u w = plan-node n p.index.0 w.inside u w.among
@@ -44,75 +40,88 @@ kept-root : (n : ℕ) (p : Plan) (u : ℕ) {q : Plan} → q ≡ fill n p u → q
 unfolding fill
 kept-root n p u e = ap (λ (q : Plan). q.root.0) e
 
-pub returns-in_default : goal.returns-in_default
-unfolding put_answer
-returns-in_default c =
-    let a = c.args in
-    let d = other_than_whole _ c.in_default.not-Whole in
-    put-limited a.anchor a.plan a.card.now a.node.0 a.tag _
-    (refused-first (first_limits a.anchor (length a.card.now)) (place_limit a.anchor.depth a.plan a.node.0 ∷ []) _
-    c.first-first.ensures d)
-    d
+-- the put of a tag that is waited for
+taken : (a : Anchor) (p : Plan) (card : List ℕ) (u : ℕ) (x : List ℕ) (f : Bool) {q : Plan} {o s : ℕ} {left : List ℕ}
+    → tested (first_limits a (length card)) ≡ Ok tt → tested (place_limit a.depth p u ∷ []) ≡ Ok tt
+    → q ≡ fill a.depth p u → full a.depth q ≡ f → o ≡ offset a.depth u → s ≡ size a.depth u → left ≡ sets card (o + s) x
+    → Puts (put a p card u x) Whole (cond f (rooted a q.root.0) a) q left
+taken a p card u x f limits nine filled all o s left =
+    put_whole a p card u x _ _ _ (put-accept a p card u (sound a card limits) (waits a.depth p u nine)) filled
+    (rw (sym all, kept-root a.depth p u filled) refl) (rw (sym o, sym s) left)
 
-pub awaits-requires : goal.awaits-requires
-awaits-requires c = (sound c.args.anchor c.args.card.now c.first-first.ensures c.in-Whole.is).shallow
+pub returns-in_err-first : goal.returns-in_err-first
+returns-in_err-first c =
+    let a = c.args.anchor in
+    let p = c.args.plan in
+    let u = c.args.node.0 in
+    let gone : c.from_residual.result ≡ Err c.in_err-first.field-0.0 = grind arith in
+    rw gone
+    (put-limited a p c.args.card.now u c.args.tag c.in_err-first.field-0.0
+    (tested-stop (first_limits a (length c.args.card.now)) (place_limit a.depth p u ∷ []) (sym c.first.ensures ∙ c.in_err-first.was)))
 
-pub returns-in_default-awaits : goal.returns-in_default-awaits
-returns-in_default-awaits c =
-    let a = c.args in
-    not-awaited a.anchor a.plan a.card.now a.node.0 a.tag
-    (none_first (first_limits a.anchor (length a.card.now)) c.first-first.ensures c.in-Whole.is)
-    (was-failed (awaits a.anchor.depth a.plan a.node.0) c.awaits.ensures c.in_default-awaits.is)
+pub invariant_of-depth : goal.invariant_of-depth
+invariant_of-depth c =
+    record { shallow = (sound c.args.anchor c.args.card.now (sym c.first.ensures ∙ c.in_ok-first.was)).shallow }
 
-pub offset-requires-clause-le_depth : goal.offset-requires-clause-le_depth
-offset-requires-clause-le_depth c =
-    let s = sound c.args.anchor c.args.card.now c.first-first.ensures c.in-Whole.is in (s.deep, s.shallow)
+pub returns-in_err-awaits : goal.returns-in_err-awaits
+returns-in_err-awaits c =
+    let a = c.args.anchor in
+    let p = c.args.plan in
+    let u = c.args.node.0 in
+    let gone : c.from_residual-in_err-awaits.result ≡ Err c.in_err-awaits.field-0.0 = grind arith in
+    let nine : tested (place_limit a.depth p u ∷ []) ≡ Err c.in_err-awaits.field-0.0 = grind arith in
+    rw gone
+    (put-limited a p c.args.card.now u c.args.tag c.in_err-awaits.field-0.0
+    (tested-then (first_limits a (length c.args.card.now)) (place_limit a.depth p u ∷ []) (sym c.first.ensures ∙ c.in_ok-first.was)
+    ∙ nine))
 
-pub offset-requires-clause-node : goal.offset-requires-clause-node
-offset-requires-clause-node c =
-    is-node c.args.anchor.depth c.args.plan c.args.node.0
-    (waits c.args.anchor.depth c.args.plan c.args.node.0 c.awaits.ensures c.in-Passed.is)
+pub invariant_of-entry : goal.invariant_of-entry
+invariant_of-entry c =
+    let n = c.args.anchor.depth in
+    let p = c.args.plan in
+    let u = c.args.node.0 in
+    let e : tested (place_limit n p u ∷ []) ≡ Ok tt = grind arith in
+    record { on_card = is-node n p u (waits n p u e) }
 
-pub size-requires : goal.size-requires
-size-requires c = (sound c.args.anchor c.args.card.now c.first-first.ensures c.in-Whole.is).shallow
-
-pub overflow_add-place : goal.overflow_add-place
-overflow_add-place c =
-    let a = c.args in
-    let n = a.anchor.depth in
-    let s = sound a.anchor a.card.now c.first-first.ensures c.in-Whole.is in
-    let w = waits n a.plan a.node.0 c.awaits.ensures c.in-Passed.is in
-    omega (arith, c.offset.ensures, c.size.ensures, entry-on n a.card.now a.node.0 (sound-card s) (is-node n a.plan a.node.0 w))
+pub overflow_add-offset : goal.overflow_add-offset
+overflow_add-offset c =
+    let n = c.args.anchor.depth in
+    let u = c.args.node.0 in
+    let s = sound c.args.anchor c.args.card.now (sym c.first.ensures ∙ c.in_ok-first.was) in
+    let e : tested (place_limit n c.args.plan u ∷ []) ≡ Ok tt = grind arith in
+    let w = waits n c.args.plan u e in
+    omega (arith, c.offset.ensures, c.size.ensures, entry-on n c.args.card.now u (sound-card s) (is-node n c.args.plan u w))
 
 pub put-requires : goal.put-requires
 put-requires c =
-    let a = c.args in
-    let n = a.anchor.depth in
-    let s = sound a.anchor a.card.now c.first-first.ensures c.in-Whole.is in
-    let w = waits n a.plan a.node.0 c.awaits.ensures c.in-Passed.is in
-    omega (arith, c.offset.ensures, c.size.ensures, entry-on n a.card.now a.node.0 (sound-card s) (is-node n a.plan a.node.0 w))
+    let n = c.args.anchor.depth in
+    let u = c.args.node.0 in
+    let s = sound c.args.anchor c.args.card.now (sym c.first.ensures ∙ c.in_ok-first.was) in
+    let e : tested (place_limit n c.args.plan u ∷ []) ≡ Ok tt = grind arith in
+    let w = waits n c.args.plan u e in
+    omega (arith, c.offset.ensures, c.size.ensures, entry-on n c.args.card.now u (sound-card s) (is-node n c.args.plan u w))
 
-pub fill-filled-requires-clause-depth_bound : goal.fill-filled-requires-clause-depth_bound
-fill-filled-requires-clause-depth_bound c = (sound c.args.anchor c.args.card.now c.first-first.ensures c.in-Whole.is).shallow
+pub fill-filled-requires : goal.fill-filled-requires
+fill-filled-requires c =
+    let n = c.args.anchor.depth in
+    let p = c.args.plan in
+    let e : tested (place_limit n p c.args.node.0 ∷ []) ≡ Ok tt = grind arith in
+    waited n p c.args.node.0 e
 
-pub anchor_after-next-requires-clause-depth_bound : goal.anchor_after-next-requires-clause-depth_bound
-anchor_after-next-requires-clause-depth_bound c = (sound c.args.anchor c.args.card.now c.first-first.ensures c.in-Whole.is).shallow
+pub is_full-requires : goal.is_full-requires
+is_full-requires c =
+    let n = c.args.anchor.depth in
+    let p = c.args.plan in
+    let u = c.args.node.0 in
+    let e : tested (place_limit n p u ∷ []) ≡ Ok tt = grind arith in
+    subst (λ (k : ℕ). k < 2 ^ n) (sym (kept-index n p u c.fill-filled.ensures)) (waits n p u e).inside
 
-pub anchor_after-next-requires-clause-index_bound : goal.anchor_after-next-requires-clause-index_bound
-anchor_after-next-requires-clause-index_bound c =
-    let a = c.args in
-    let n = a.anchor.depth in
-    subst (λ (k : ℕ). k < 2 ^ n) (sym (kept-index n a.plan a.node.0 c.fill-filled.ensures))
-    (waits n a.plan a.node.0 c.awaits.ensures c.in-Passed.is).inside
+pub returns-then-is_full : goal.returns-then-is_full
+returns-then-is_full c =
+    taken c.args.anchor c.args.plan c.args.card.now c.args.node.0 c.args.tag true (sym c.first.ensures ∙ c.in_ok-first.was)
+    (grind arith) c.fill-filled.ensures (sym c.is_full.ensures ∙ c.if-is_full.true) c.offset.ensures c.size.ensures c.put.ensures
 
-pub returns : goal.returns
-returns c =
-    let a = c.args in
-    let n = a.anchor.depth in
-    let u = a.node.0 in
-    let s = sound a.anchor a.card.now c.first-first.ensures c.in-Whole.is in
-    let w = waits n a.plan u c.awaits.ensures c.in-Passed.is in
-    put_whole a.anchor a.plan a.card.now u a.tag _ _ _ (put-accept a.anchor a.plan a.card.now u s w) c.fill-filled.ensures
-    (c.anchor_after-next.ensures
-    ∙ ap (λ (t : ℕ). cond (full n c.fill-filled.result) (rooted a.anchor t) a.anchor) (kept-root n a.plan u c.fill-filled.ensures))
-    (c.put.ensures ∙ ap (λ (k : ℕ). sets a.card.now k a.tag) (ap₂ ◌+◌ c.offset.ensures c.size.ensures))
+pub returns-else-is_full : goal.returns-else-is_full
+returns-else-is_full c =
+    taken c.args.anchor c.args.plan c.args.card.now c.args.node.0 c.args.tag false (sym c.first.ensures ∙ c.in_ok-first.was)
+    (grind arith) c.fill-filled.ensures (sym c.is_full.ensures ∙ c.if-is_full.false) c.offset.ensures c.size.ensures c.put.ensures

@@ -1,8 +1,7 @@
 -- After so many turns the pairs of so many levels are stamped with the labels of the card after the write, whatever its root nonce was, and
 -- their messages counted.
 use Rattle.std.proofs.Common.{◌≡◌, ℕ, ◌-◌, ◌*◌, ◌≤◌, map}
-use Rattle.cmac.specs.Context.{tag_under}
-use Rattle.cmac.specs.Traced.{count_under}
+use Rattle.cmac.specs.Context.{tag_by, count_by}
 use Rattle.tree.specs.Nodes.{up_to, pair}
 use Rattle.tree.specs.Labels.{message, labels, new_labels}
 use Rattle.tree.specs.Card.{stamped}
@@ -11,13 +10,9 @@ use Rattle.stamp.proofs.block.Given as goal
 
 abbrev pub invariant-loop-level : goal.invariant-loop-level
 invariant-loop-level l =
-    (l.level ≤ l.depth)
-    × ((t : ℕ) →
-    let L = new_labels l.depth (l.new - l.depth) l.index.0 l.block (labels l.depth t l.initial.card) in
-    let us = up_to l.level (pair l.depth l.index.0) in
-    (l.card ≡ stamped (tag_under l.schedule l.subkeys) l.depth L us l.initial.card)
-    × (l.count ≡ total (count_under l.schedule l.subkeys) (map (message L) us)))
+    ((t : ℕ) →
+    let L = new_labels l.depth.levels (l.new - l.depth.levels) l.path.index.0 l.block (labels l.depth.levels t l.initial.card) in
+    let us = up_to l.level (pair l.depth.levels l.path.index.0) in
+    (l.card ≡ stamped (tag_by l.context) l.depth.levels L us l.initial.card)
+    × (l.count ≡ total (count_by l.context) (map (message L) us)))
     × (l.count ≤ 10 * l.level)
-
-abbrev pub decreases-loop-level : goal.decreases-loop-level
-decreases-loop-level l = l.depth - l.level

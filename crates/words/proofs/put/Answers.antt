@@ -1,6 +1,6 @@
-use Rattle.std.proofs.Common.{arith}
-use Rattle.words.proofs.Stores.{sets_more}
+use Rattle.std.proofs.Common.{rules}
+use Rattle.words.proofs.Stores.{sets-put_mid}
 use Rattle.words.proofs.put.Goals as goal
 
-pub loop-i-preserved : goal.loop-i-preserved
-loop-i-preserved c = (omega arith, rw c.loop-i.invariant.1 (sets_more _ _ _ _ c.loop-i-test.true))
+pub returns : goal.returns
+returns c = search (rules, sets-put_mid)

@@ -1,65 +1,80 @@
--- What the walk along the path found and counted under the context is so under the key.
-use Rattle.std.proofs.Common.{sym, ◌∙◌, arith}
+-- What the walk along the path found and counted under the context is so under the key, and what is whole gives the block.
+use Rattle.std.proofs.Common.{◌≡◌, ℕ, ◌+◌, ◌^◌, List, length, cond, sym, ap, ◌∙◌, arith}
+use Rattle.std.specs.Result.{is_ok}
+use Rattle.std.proofs.lemmas.List.Edits.{sets}
 use Rattle.cmac.proofs.TraceLaws.{subkeys-count}
+use Rattle.tree.specs.Layout.{label}
 use Rattle.tree.specs.Nodes.{path}
 use Rattle.tree.specs.Calls.{read, checks}
-use Rattle.tree.proofs.LimitLaws.{passed, sound-card}
-use Rattle.tree.proofs.AnswerLaws.{other_than_whole}
-use Rattle.work.proofs.OutcomeLaws.{few-calls, found_of, count_of_lem, reports-wrong, reports-read}
+use Rattle.tree.proofs.ByteLaws.{sets-whole}
+use Rattle.tree.proofs.LayoutLaws.{length_label, leaf}
+use Rattle.tree.proofs.LimitLaws.{Reads, passed, sound-card}
+use Rattle.tree.proofs.NodeLaws.{leaf-node}
+use Rattle.work.proofs.OutcomeLaws.{few-calls, found_of, count_of_lem, reports-read}
 use Rattle.work.proofs.read.Goals as goal
+use Rattle.work.proofs.read.Goals.{then-is_ok, else-is_ok}
 
-pub path-found-requires-clause-card : goal.path-found-requires-clause-card
-path-found-requires-clause-card c =
+-- the block fills the buffer
+full-block : (n t i : ℕ) (card buffer : List ℕ) → Reads n t card i buffer → length (label n card (2 ^ n + i)) ≡ length buffer
+full-block n t i card buffer p =
+    let u = 2 ^ n + i in
+    length_label n card u p.sound.full (leaf-node n i p.sound.deep p.inside) ∙ omega (arith, leaf n u (omega arith))
+
+pub block_of-block-requires-clause-card : goal.block_of-block-requires-clause-card
+block_of-block-requires-clause-card c =
     sound-card (passed c.args.anchor c.args.card.now (read c.args.index.0 c.args.buffer.now) c.requires).sound
 
-pub path-found-requires-clause-index_bound : goal.path-found-requires-clause-index_bound
-path-found-requires-clause-index_bound c =
+pub block_of-block-requires-clause-index_bound : goal.block_of-block-requires-clause-index_bound
+block_of-block-requires-clause-index_bound c =
     (passed c.args.anchor c.args.card.now (read c.args.index.0 c.args.buffer.now) c.requires).inside
 
-pub overflow_add-count : goal.overflow_add-count
+pub put-requires : goal.put-requires
+put-requires c =
+    let a = c.args.anchor in
+    let b = c.block_of-block.ensures in
+    let e = rw (b.depth, b.bytes, b.index) at c.bytes.ensures in
+    omega (
+      arith,
+      ap length e,
+      full-block a.depth a.root.0 c.args.index.0 c.args.card.now c.args.buffer.now
+          (passed a c.args.card.now (read c.args.index.0 c.args.buffer.now) c.requires),
+    )
+
+pub overflow_add-result : goal.overflow_add-result
 unfolding checks
-overflow_add-count c =
+overflow_add-result c =
     let a = c.args.anchor in
     let card = c.args.card.now in
     let call = read c.args.index.0 c.args.buffer.now in
-    let made = c.context_of-context.ensures in
+    let b = c.block_of-block.ensures in
     omega (
       arith,
-      count_of_lem a.key _ made a.depth a.root.0 card (path a.depth c.args.index.0) c.path-found.ensures.count_value,
+      count_of_lem a.key _ c.new-context.ensures a.depth a.root.0 card (path a.depth c.args.index.0)
+          (rw (b.depth, b.root, b.bytes, b.index) at c.path-found.ensures.count),
       subkeys-count a.key,
       few-calls a.key a card call (passed a card call c.requires),
     )
-
-pub returns-in_default : goal.returns-in_default
-unfolding checks
-returns-in_default c =
-    let a = c.args.anchor in
-    let card = c.args.card.now in
-    let us = path a.depth c.args.index.0 in
-    let made = c.context_of-context.ensures in
-    reports-wrong a card (read c.args.index.0 c.args.buffer.now) _ _ c.requires
-    (found_of a.key _ made a.depth a.root.0 card us c.path-found.ensures.answer_value) (other_than_whole _ c.in_default.not-Whole)
-    (count_of_lem a.key _ made a.depth a.root.0 card us c.path-found.ensures.count_value)
-
-pub copy_block-requires-clause-card : goal.copy_block-requires-clause-card
-copy_block-requires-clause-card c =
-    sound-card (passed c.args.anchor c.args.card.now (read c.args.index.0 c.args.buffer.now) c.requires).sound
-
-pub copy_block-requires-clause-index_bound : goal.copy_block-requires-clause-index_bound
-copy_block-requires-clause-index_bound c =
-    (passed c.args.anchor c.args.card.now (read c.args.index.0 c.args.buffer.now) c.requires).inside
-
-pub copy_block-requires-clause-buffer_len : goal.copy_block-requires-clause-buffer_len
-copy_block-requires-clause-buffer_len c =
-    (passed c.args.anchor c.args.card.now (read c.args.index.0 c.args.buffer.now) c.requires).long
 
 pub returns : goal.returns
 unfolding checks
 returns c =
     let a = c.args.anchor in
     let card = c.args.card.now in
-    let us = path a.depth c.args.index.0 in
-    let made = c.context_of-context.ensures in
-    reports-read a card c.args.index.0 c.args.buffer.now _ _ c.requires
-    (sym c.in-Whole.is ∙ found_of a.key _ made a.depth a.root.0 card us c.path-found.ensures.answer_value)
-    (count_of_lem a.key _ made a.depth a.root.0 card us c.path-found.ensures.count_value) c.copy_block.ensures
+    let buffer = c.args.buffer.now in
+    let i = c.args.index.0 in
+    let us = path a.depth i in
+    let made = c.new-context.ensures in
+    let b = c.block_of-block.ensures in
+    let filled : c.if-is_ok.buffer ≡ cond (is_ok c.path-found.result.value) (label a.depth card (2 ^ a.depth + i)) buffer =
+    elim c.if-is_ok.branch [
+      | then-is_ok w ↦
+          rw (← c.is_ok.ensures.value, w.if-is_ok.true)
+          (w.buffer-is ∙ w.put.ensures ∙ ap (sets buffer 0) (rw (b.depth, b.bytes, b.index) at w.bytes.ensures)
+          ∙ sets-whole (label a.depth card (2 ^ a.depth + i)) buffer
+          (sym (full-block a.depth a.root.0 i card buffer (passed a card (read i buffer) c.requires))))
+      | else-is_ok w ↦ rw (← c.is_ok.ensures.value, w.if-is_ok.false) w.buffer-is
+    ] in
+    reports-read a card i buffer _ _ _ c.requires
+    (found_of a.key _ made a.depth a.root.0 card us (rw (b.depth, b.root, b.bytes, b.index) at c.path-found.ensures.value))
+    (count_of_lem a.key _ made a.depth a.root.0 card us (rw (b.depth, b.root, b.bytes, b.index) at c.path-found.ensures.count))
+    filled

@@ -1,43 +1,47 @@
--- One node more with each turn; the first wrong one ends the walk.
-use Rattle.std.proofs.Common.{◌≡◌, refl, ◌*◌, ◌-◌, ◌^◌, arith, rules}
+-- The iterator gives all nodes.
+use Rattle.std.proofs.Common.{◌≡◌, ℕ, refl, subst, ◌+◌, ◌-◌, ◌*◌, ◌^◌, [], ◌∷◌, rules, arith}
+use Rattle.std.specs.Fn.{Called}
+use Rattle.std.specs.Iterator.{AlwaysYields}
+use Rattle.std.specs.Iterator.Adapters.{map_source, map_callee}
+use Rattle.std.specs.declared.iter.Map.{Map}
+use Rattle.std.specs.declared.ops.Range.{Range}
+use Rattle.std.proofs.iter.Yields.{nat_range_steps}
+use Rattle.std.proofs.lemmas.Iterator.{maps, YieldsList-from_range, YieldsList-from_map_by}
+use Rattle.std.proofs.lemmas.Iterator.Consumers.{YieldsList-at}
+use denote.Param.Members.{Mut}
 use Rattle.tree.specs.Nodes.{all_nodes}
+use Rattle.tree.specs.declared.Node.{Node}
 use Rattle.tree.proofs.LayoutLaws.{few-leaves}
-use Rattle.card.proofs.WalkLaws.{answers, right-walked, wrong-walked, walk_start, walk_more, walk-out, few-checked}
+use Rattle.tree.proofs.NodeLaws.{among-node}
+use Rattle.card.specs.Walks.{GivesNodes}
+use Rattle.card.specs.declared.view.CardView.{CardView}
+use Rattle.card.proofs.WalkLaws.{up-to-map, length-up-to}
 use Rattle.card.proofs.walk.all.Goals as goal
 
-pub loop-y-init : goal.loop-y-init
-loop-y-init c = (search rules, search rules, walk_start _ _ _ _ _ _)
+module _ {F : Type 0} {g : Mut F (ℕ × Unit {0}) Node} {f : F} {s : Map (Range ℕ) F} (v : CardView) (l : ℕ) where
+  given : l ≡ 2 ^ v.depth.levels → map_source s ≡ record { start = 2; end = 2 * l } → map_callee s ≡ f
+      → ((x : ℕ) (r : Node) (q : F) → Called g f (x, tt) r q → (q ≡ f) × (r.0 ≡ x))
+      → GivesNodes (maps nat_range_steps g) v.depth.levels s (all_nodes v.depth.levels)
+  unfolding all_nodes
+  given e source callee calls =
+      let n = v.depth.levels in
+      let k = 2 * 2 ^ n - 2 in
+      let road = YieldsList-from_map_by g (λ u. u.0) (λ y. y) (YieldsList-at source (YieldsList-from_range 2 (2 * l) k refl (omega arith))) callee calls in
+      record {
+        yields =
+            subst (AlwaysYields (maps nat_range_steps g) (λ (u : Node). u.0) s) (up-to-map 2 k (λ y. y) (λ y. y + 1) (λ y. omega arith))
+            road.runs;
+        nodes = among-node n;
+        few = omega (arith, length-up-to k 1 (λ y. (y + 1) ∷ []) (λ y. omega arith), few-leaves n v.depth.shallow);
+      }
 
-pub overflow_add-count : goal.overflow_add-count
-overflow_add-count c =
-    let few =
-    few-checked _ _ _ _ _ _ _ c.requires.card (record { low = omega arith; high = omega arith }) c.node-tested.ensures.count_value in
-    omega (arith, few-leaves c.args.depth c.requires.card.shallow, few)
-
-pub loop-y-preserved : goal.loop-y-preserved
-loop-y-preserved c =
-    let few =
-    few-checked _ _ _ _ _ _ _ c.requires.card (record { low = omega arith; high = omega arith }) c.node-tested.ensures.count_value in (
-      search rules,
-      omega (arith, few),
-      walk_more _ _ _ _ _ _ _ c.loop-y.invariant.2
-          (right-walked _ _ _ _ _ refl c.node-tested.ensures.test_value c.node-tested.ensures.count_value c.in-Passed.is) refl,
-    )
-
-pub returns-in_default : goal.returns-in_default
-unfolding all_nodes
-returns-in_default c =
-    let w =
-    answers _ _ _ _ _
-    (walk-out _ _ _ _ _ _ _ _ _ _ (omega arith)
-    (walk_more _ _ _ _ _ _ _ c.loop-y.invariant.2
-    (wrong-walked _ _ _ _ _ refl c.node-tested.ensures.test_value c.node-tested.ensures.count_value c.in_default.is) refl))
-    c.wrong.ensures.answer_value c.wrong.ensures.count_value in
-    record { answer_value = w.0; count_value = w.1 }
+pub each-requires-clause-nodes : goal.each-requires-clause-nodes
+each-requires-clause-nodes c = (
+  all_nodes c.args.card.now.depth.levels,
+  given c.args.card.now c.leaves.result c.leaves.ensures c.map.ensures.source c.map.ensures.closure (λ x r q k. search rules),
+)
 
 pub returns : goal.returns
-unfolding all_nodes
 returns c =
-    let y : c.loop-y.y ≡ 2 * 2 ^ c.args.depth - 2 = omega arith in
-    let w = answers _ _ _ _ _ (rw y at c.loop-y.invariant.2) refl refl in
-    record { answer_value = w.0; count_value = w.1 }
+    c.each.ensures _
+    (given c.args.card.now c.leaves.result c.leaves.ensures c.map.ensures.source c.map.ensures.closure (λ x r q k. search rules))

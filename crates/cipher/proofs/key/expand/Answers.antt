@@ -1,8 +1,6 @@
 use Rattle.std.proofs.Common.{rules, ℕ, ◌+◌, ◌*◌, ◌≡◌, List, take, length, ap, ap₂, sym, ◌∙◌, arith}
-use lib.ListN.{replicate}
 use lib.Seq.{take_all}
 use native.Mathlib.Nat.{le_of_eq}
-use Rattle.std.proofs.lemmas.List.Edits.{sets}
 use Rattle.words.specs.Words.{state_of}
 use Rattle.cipher.specs.KeyExpansion.{first_words, next_round_key, key_expansion}
 use Rattle.cipher.proofs.Schedule.{filled_more}
@@ -11,19 +9,16 @@ use Rattle.cipher.proofs.key.expand.Goals as goal
 pub loop-round-init : goal.loop-round-init
 unfolding first_words
 loop-round-init c =
-    let e = c.put_block.ensures ∙ ap (sets (replicate 176 0) 0) c.joined.ensures in
-    (search rules, record { whole = ap length e; words = ap (take 16) e; last = ap (take 16) e })
+    let e = c.put.ensures in
+    record { whole = ap length e; words = ap (take 16) e; last = ap (take 16) e }
 
 pub loop-round-preserved : goal.loop-round-preserved
 loop-round-preserved c =
     let loop = c.loop-round in
     let k = loop.last in
-    let n = c.next-last.result in
     let e = c.next-last.ensures ∙ ap (λ (b : ℕ). next_round_key b (state_of k)) c.constant.ensures in
-    let filled = filled_more _ loop.schedule k n loop.round c.loop-round-test.true loop.invariant.1 e in
-    let stored = c.put_block-in-loop-round.ensures
-    ∙ ap (sets loop.schedule (16 * (loop.round + 1))) c.joined-in-loop-round.ensures in
-    (search rules, rw stored filled)
+    rw c.put-in-loop-round.ensures
+    (filled_more _ loop.schedule k c.next-last.result loop.round c.loop-round-test.true loop.invariant e)
 
 pub returns : goal.returns
 unfolding key_expansion
@@ -32,6 +27,6 @@ returns c =
     let n : loop.round ≡ 10 = omega arith in
     let key = c.args.key in
     let whole : take 16 key ≡ key = take_all 16 key (search rules) in
-    sym (take_all 176 loop.schedule (le_of_eq loop.invariant.1.whole))
-    ∙ ap (λ (i : ℕ). take (16 * i + 16) loop.schedule) (sym n) ∙ loop.invariant.1.words
-    ∙ ap₂ (λ (k : List ℕ) (i : ℕ). first_words k (4 * i)) (c.columns_at-last.ensures ∙ whole) n
+    sym (take_all 176 loop.schedule (le_of_eq loop.invariant.whole))
+    ∙ ap (λ (i : ℕ). take (16 * i + 16) loop.schedule) (sym n) ∙ loop.invariant.words
+    ∙ ap₂ (λ (k : List ℕ) (i : ℕ). first_words k (4 * i)) (c.at-last.ensures ∙ whole) n

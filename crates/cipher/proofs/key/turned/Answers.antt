@@ -1,14 +1,12 @@
-use Rattle.std.proofs.Common.{◌∙◌, arith}
+use Rattle.std.proofs.Common.{rules, ◌≡◌, [], ◌∷◌, refl, ◌∙◌}
 use Rattle.cipher.specs.KeyExpansion.{sub_word, rot_word}
-use Rattle.tables.proofs.Tables.{sbox-at}
+use Rattle.words.specs.Words.{bytes}
+use Rattle.words.proofs.Endian.{bytes-from_le_bytes_4}
 use Rattle.cipher.proofs.key.turned.Goals as goal
 
 pub returns : goal.returns
 unfolding sub_word rot_word
 returns c =
-    let rule = sbox-at c.args.sbox.now c.requires in
-    let e1 = rule c.byte1.result (omega arith) in
-    let e2 = rule c.byte2.result (omega arith) in
-    let e3 = rule c.byte3.result (omega arith) in
-    let e0 = rule c.byte0.result (omega arith) in
-    c.word_of.ensures ∙ cc
+    let s = c.substituted.result ∷ c.substituted-2.result ∷ c.substituted-3.result ∷ c.substituted-4.result ∷ [] in
+    let e : bytes 4 c.from_le_bytes.result ≡ s = rw c.from_le_bytes.ensures (bytes-from_le_bytes_4 s refl (search rules)) in
+    e ∙ cc

@@ -1,8 +1,27 @@
+use Rattle.std.proofs.Common.{rules, ◌≡◌, ℕ, [], ◌∷◌}
 use Rattle.cipher.specs.KeyExpansion.{xor_word}
 use Rattle.cipher.specs.State.{sub_bytes, shift_rows, add_round_key}
+use Rattle.words.specs.Bytes.{at}
+use Rattle.words.specs.Words.{bytes}
+use Rattle.tables.specs.SBox.{s_box}
 use Rattle.words.proofs.Bytes.{four-columns}
+use Rattle.cipher.proofs.Mixing.{unmixed-word}
 use Rattle.cipher.proofs.round.last.Goals as goal
+
+-- a word of the state from its four columns and its key
+abbrev Unmixed : ℕ → ℕ → ℕ → ℕ → ℕ → ℕ → Type 0
+Unmixed w p q r s k = bytes 4 w ≡ xor_word
+    (s_box (at (bytes 4 p) 0) ∷ s_box (at (bytes 4 q) 1) ∷ s_box (at (bytes 4 r) 2) ∷ s_box (at (bytes 4 s) 3) ∷ [])
+    (bytes 4 k)
 
 pub returns : goal.returns
 unfolding xor_word sub_bytes shift_rows add_round_key
-returns c = four-columns c.unmixed.ensures c.unmixed-2.ensures c.unmixed-3.ensures c.unmixed-4.ensures
+returns c =
+    let s = c.args.state in
+    let k = c.args.key in
+    let r = c.shifted.result in
+    let e0 : Unmixed r.c0 s.c0 s.c1 s.c2 s.c3 k.c0 = search (rules, unmixed-word) in
+    let e1 : Unmixed r.c1 s.c1 s.c2 s.c3 s.c0 k.c1 = search (rules, unmixed-word) in
+    let e2 : Unmixed r.c2 s.c2 s.c3 s.c0 s.c1 k.c2 = search (rules, unmixed-word) in
+    let e3 : Unmixed r.c3 s.c3 s.c0 s.c1 s.c2 k.c3 = search (rules, unmixed-word) in
+    four-columns e0 e1 e2 e3

@@ -11,7 +11,7 @@ overflow_add-start c = omega (arith, (last-counted [] [] c.args.message.now c.ar
 
 pub returns-then-start-message : goal.returns-then-start-message
 returns-then-start-message c =
-    c.xored.ensures ∙ ap₂ xor_block c.block_at.ensures c.block_at-then-start-message.ensures
+    c.bitxor.ensures ∙ ap₂ xor_block c.at.ensures c.at-then-start-message.ensures
     ∙ sym (last-full _ _ c.args.message.now c.args.count c.requires c.if-start-message.true)
 
 pub padded_block-requires : goal.padded_block-requires
@@ -21,5 +21,5 @@ padded_block-requires c =
 
 pub returns : goal.returns
 returns c =
-    c.xored-2.ensures ∙ ap₂ xor_block c.padded_block.ensures c.block_at-2.ensures
+    c.bitxor-2.ensures ∙ ap₂ xor_block c.padded_block.ensures c.at-2.ensures
     ∙ sym (last-short _ _ c.args.message.now c.args.count c.requires c.if-start-message.false)

@@ -7,5 +7,5 @@ use Rattle.host_bytes.proofs.anchor.number_at.Goals as goal
 
 pub returns : goal.returns
 returns c =
-    sym (number-be 8 c.be8.result (omega arith))
-    ∙ ap number (be-turned c.be8.result c.double_word_at.result c.be8.ensures ∙ c.double_word_at.ensures)
+    sym (number-be 8 c.be.result (omega arith))
+    ∙ ap number (be-turned c.be.result c.at.result c.be.ensures ∙ c.at.ensures)

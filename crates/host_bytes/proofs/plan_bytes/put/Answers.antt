@@ -19,12 +19,12 @@ stored s x y z h a b c =
 pub returns : goal.returns
 returns c =
     let p = c.args.plan in
-    c.put_double_word-3.ensures
+    c.put-3.ensures
     ∙ ap₂ (λ (l x : List ℕ). sets l 16 x)
-    (c.put_double_word-2.ensures
+    (c.put-2.ensures
     ∙ ap₂ (λ (l x : List ℕ). sets l 8 x)
-    (c.put_double_word.ensures ∙ ap (sets c.args.bytes.now 0) c.be8.ensures)
-    c.be8-2.ensures)
-    c.be8-3.ensures
+    (c.put.ensures ∙ ap (sets c.args.bytes.now 0) c.be.ensures)
+    c.be-2.ensures)
+    c.be-3.ensures
     ∙ stored c.args.bytes.now (be8 p.index.0) (be8 p.root.0) (be8 p.filled) c.requires
     (length-be 8 p.index.0) (length-be 8 p.root.0) (length-be 8 p.filled)

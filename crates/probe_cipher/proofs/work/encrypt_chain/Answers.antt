@@ -6,26 +6,24 @@ use Rattle.probe.specs.Told.{repeated}
 use Rattle.probe.proofs.Laws.{part-all, stored-all, repeated-more}
 use Rattle.probe_cipher.proofs.work.encrypt_chain.Goals as goal
 
-pub loop-i-init : goal.loop-i-init
+pub loop-init : goal.loop-init
 unfolding repeated
-loop-i-init c = record { index = omega arith; state = refl }
+loop-init c = refl
 
-pub loop-i-preserved : goal.loop-i-preserved
-loop-i-preserved c =
-    let e = cipher_of c.expand-schedule.result in record {
-      index = omega arith;
-      state = c.encrypt-x.ensures ∙ ap e c.loop-i.invariant.state ∙ sym (repeated-more e _ c.loop-i.i);
-    }
+pub loop-preserved : goal.loop-preserved
+loop-preserved c =
+    let e = cipher_of c.new-aes.result.schedule in
+    c.encrypt-x.ensures ∙ ap e c.loop.invariant ∙ sym (repeated-more e _ c.loop.counter)
 
 pub returns : goal.returns
 returns c =
     let key = c.args.key.now in
     let block = c.args.block.now in
-    let schedule = c.expand-schedule.result in
-    let n : c.loop-i.i ≡ c.args.count = omega arith in
-    let w = c.expand-schedule.ensures ∙ ap key_expansion c.key_of.ensures in
-    let first = c.block_at-x.ensures ∙ part-all block c.requires.1 in
-    c.put_block.ensures ∙ stored-all block _ refl c.requires.1
-    ∙ c.loop-i.invariant.state
+    let schedule = c.new-aes.result.schedule in
+    let n : c.loop.counter ≡ c.args.count = omega arith in
+    let w = c.new-aes.ensures ∙ ap key_expansion c.key_of.ensures in
+    let first = c.at-x.ensures ∙ part-all block c.requires.1 in
+    c.put.ensures ∙ stored-all block _ refl c.requires.1
+    ∙ c.loop.invariant
     ∙ ap₂ (λ (b : List ℕ) (i : ℕ). repeated (cipher_of schedule) b i) first n
     ∙ ap (λ (e : List ℕ → List ℕ). repeated e block c.args.count) (ap cipher_of w ∙ cipher-of-key key)

@@ -8,12 +8,11 @@ use Rattle.split.proofs.within.lay.Goals as goal
 
 pub returns-clause-messages_after : goal.returns-clause-messages_after
 returns-clause-messages_after c =
-    let a = c.args in
-    let n = a.anchor.depth in
-    let t = a.anchor.root.0 in
-    let i = a.index.0 in
+    let n = c.args.path.depth.levels in
+    let t = c.args.last.0 in
+    let i = c.args.path.index.0 in
+    let rest = drop (34 * n + 112) c.args.messages.now in
     c.fill-2.ensures
-    ∙ ap (λ (l : List ℕ). joined (map (given (labels n (t + n) l)) (plan_nodes n i)) ++ drop (34 * n + 112) a.messages.now)
-    (c.labels.ensures t)
-    ∙ ap (λ (ms : List Given). joined ms ++ drop (34 * n + 112) a.messages.now)
-    (messages-read n t i a.card.now a.block.now c.requires.card c.requires.index_bound c.requires.block_len)
+    ∙ ap (λ (l : List ℕ). joined (map (given (labels n (t + n) l)) (plan_nodes n i)) ++ rest) (c.labels.ensures t)
+    ∙ ap (λ (ms : List Given). joined ms ++ rest)
+    (messages-read n t i c.args.card.now c.args.block.now c.requires.card c.args.path.on_card c.requires.block_len)

@@ -14,37 +14,31 @@ child n i y u w inside below is same =
 
 pub loop-level-init : goal.loop-level-init
 unfolding ranges_to encode
-loop-level-init c = record { high = omega arith; stored = refl }
+loop-level-init c = refl
 
-pub put_node-requires-clause-node : goal.put_node-requires-clause-node
-put_node-requires-clause-node c =
-    child c.args.depth c.args.index.0 c.loop-level.level c.node-own.result.0 _ c.requires.index_bound (omega arith) c.node-own.ensures
-    (omega arith)
-
-pub put_node-requires-in-loop-level-clause-node : goal.put_node-requires-in-loop-level-clause-node
-put_node-requires-in-loop-level-clause-node c =
-    child c.args.depth c.args.index.0 c.loop-level.level c.node-own.result.0 _ c.requires.index_bound (omega arith) c.node-own.ensures
-    (omega arith)
+pub invariant_of-put_entry : goal.invariant_of-put_entry
+invariant_of-put_entry c = record {
+  on_card =
+      child c.args.path.depth.levels c.args.path.index.0 c.loop-level.level c.node-own.result.0 _ c.args.path.on_card (omega arith)
+      c.node-own.ensures (omega arith);
+}
 
 pub loop-level-preserved : goal.loop-level-preserved
 loop-level-preserved c =
     let loop = c.loop-level in
+    let n = c.args.path.depth.levels in
     let u = c.node-own.result.0 in
-    record {
-      high = omega arith;
-      stored =
-          c.put_node-in-loop-level.ensures
-          ∙ ap (λ (l : List ℕ). sets l (16 * loop.level + 8) (encode (range_of c.args.depth u (2 * (u / 2) + 1) ∷ []))) c.put_node.ensures
-          ∙ ranges_more c.args.depth c.args.index.0 c.args.buffer.now loop.buffer loop.level u loop.invariant.stored c.node-own.ensures;
-    }
+    c.put_entry-in-loop-level.ensures
+    ∙ ap (λ (l : List ℕ). sets l (16 * loop.level + 8) (encode (range_of n u (2 * (u / 2) + 1) ∷ []))) c.put_entry.ensures
+    ∙ ranges_more n c.args.path.index.0 c.args.buffer.now loop.buffer loop.level u loop.invariant c.node-own.ensures
 
 pub returns : goal.returns
 returns c =
-    let n = c.args.depth in
+    let n = c.args.path.depth.levels in
     let s = c.args.buffer.now in
-    let x = encode (ranges_to n c.args.index.0 n) in
+    let x = encode (ranges_to n c.args.path.index.0 n) in
     let y : c.loop-level.level ≡ n = omega arith in
-    let k : length x ≡ 16 * n = ranges-length n c.args.index.0 n in
+    let k : length x ≡ 16 * n = ranges-length n c.args.path.index.0 n in
     let e : 0 + length x ≡ 16 * n = omega arith in
-    c.loop-level.invariant.stored ∙ ap (λ (y : ℕ). sets s 0 (encode (ranges_to n c.args.index.0 y))) y
+    c.loop-level.invariant ∙ ap (λ (y : ℕ). sets s 0 (encode (ranges_to n c.args.path.index.0 y))) y
     ∙ sets-eq x s 0 (omega arith) ∙ ap (λ (m : ℕ). x ++ drop m s) e

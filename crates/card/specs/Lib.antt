@@ -1,0 +1,2 @@
+-- What the walks over a card's nodes find.
+pub mod Walks

@@ -1,0 +1,122 @@
+// A split write: its plan and its puts.
+ghost use Rattle.std.specs.Prelude.{◌≡◌, ◌*◌, ◌≤◌, length};
+
+use cmac::Context;
+use plan::Plan;
+use split::Placed;
+use steps::{Left, Turn, left, sum};
+use tree::{BlockIndex, Error, Node, Nonce, Path};
+
+// What stands for the plan of a write that is refused.
+const NO_PLAN: Plan = Plan {
+    index: BlockIndex(65536),
+    root: Nonce(0),
+    filled: 0,
+};
+
+// A split write: the path to its block, its plan as last returned, the tags of its messages, and what the plan left.
+#[derive(Clone, Copy)]
+pub struct Going {
+    path: Path,
+    plan: Plan,
+    tags: [[u8; 16]; 13],
+    left: Left,
+    ghost deep: { 1 ≤ path.depth.levels },
+    ghost shallow: { path.depth.levels ≤ 6 },
+}
+
+impl Going {
+    // Plans a write of a block whose bytes are drawn, with so many bytes of the range buffer lent.
+    pub fn begin(turn: &mut Turn, path: Path, card: &mut [u8], lent: usize) -> Going
+        requires levels { (1 ≤ path.depth.levels) × (path.depth.levels ≤ 6) }
+        requires lent { lent ≤ 101 }
+    {
+        let mut block = [0u8; 64];
+        turn.draw.fill(&mut block);
+        let mut ranges = [left::RANGES; 101];
+        let mut messages = [left::BUFFER; 656];
+        let planned = split::plan(
+            turn.anchor,
+            card,
+            path.index,
+            &block,
+            &mut ranges[..lent],
+            &mut messages,
+        );
+        let mut going = Going {
+            path,
+            plan: planned.value.unwrap_or(NO_PLAN),
+            tags: [[0; 16]; 13],
+            left: Left {
+                ranges: sum::adler(&ranges),
+                ..Left::from(planned)
+            },
+        };
+        going.make_tags(turn.anchor.key, &messages);
+        going
+    }
+
+    // The engines: the tags of all messages of a plan, and zeros behind them. The messages of the leaves come last, and are longer.
+    fn make_tags(&mut self, key: [u8; 16], messages: &[u8])
+        requires { length messages.now ≡ 656 }
+    {
+        let context = Context::new(key);
+        let inner = (34 * self.path.depth.levels - 34) as usize;
+        let each = messages[..inner]
+            .chunks_exact(17)
+            .chain(messages[inner..inner + 146].chunks_exact(73));
+        for (tag, message) in self.tags.iter_mut().zip(each) {
+            *tag = context.tag(message).value.into();
+        }
+    }
+
+    // As many puts as there are places, of places that are drawn, and then each place in rising order: in the end all are filled, and some
+    // were tried twice. The buffer's sum is that of the numbers that they answer.
+    pub fn finish(mut self, turn: &mut Turn, card: &mut [u8]) -> Left {
+        let places = (2 * self.path.depth.levels) as usize;
+        let mut answers = [left::BUFFER; 64];
+        for (k, answer) in answers[..2 * places].iter_mut().enumerate() {
+            let place = if k < places {
+                turn.draw.pick(places as u64 + 1) as usize
+            } else {
+                k - places
+            };
+            *answer = (self.put(turn, card, place) & 0xff) as u8;
+        }
+        Left {
+            buffer: sum::adler(&answers),
+            ..self.left
+        }
+    }
+
+    // Puts the tag of a place, and answers the put's number.
+    fn put(&mut self, turn: &mut Turn, card: &mut [u8], place: usize) -> u64
+        requires { place ≤ 2 * self.old.path.depth.levels }
+        ensures { self.new.path ≡ self.old.path }
+    {
+        let placed = split::put_tag(
+            turn.anchor,
+            self.plan,
+            card,
+            self.node(place),
+            self.tags[place],
+        );
+        if let Ok(Placed { anchor, plan }) = placed {
+            turn.anchor = anchor;
+            self.plan = plan;
+        }
+        tree::number(placed.map(|_| ()).map_err(Error::from))
+    }
+
+    // The node at a place; behind the last one the root, which no plan waits for.
+    fn node(&self, place: usize) -> Node
+        requires { place ≤ 2 * self.now.path.depth.levels }
+    {
+        let place = place as u64;
+        if place == 2 * self.path.depth.levels {
+            return Node(1);
+        }
+        let own = self.path.node(place / 2 + 1);
+        Node(own.0 / 2 * 2 + place % 2)
+    }
+}

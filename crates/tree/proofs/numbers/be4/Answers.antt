@@ -1,6 +1,0 @@
-use Rattle.tree.specs.Numbers.{be}
-use Rattle.tree.proofs.numbers.be4.Goals as goal
-
-pub returns : goal.returns
-unfolding be
-returns c = c.reversed_word.ensures

@@ -1,7 +1,0 @@
-use Rattle.std.proofs.Common.{◌++◌, sym, ap₂, ◌∙◌}
-use Rattle.words.proofs.Bytes.{part-add}
-use Rattle.words.proofs.block_at.Goals as goal
-
-pub returns : goal.returns
-returns c =
-    ap₂ ◌++◌ c.double_word_at.ensures c.double_word_at-2.ensures ∙ sym (part-add c.args.string.now c.args.start 8 8)
