@@ -32,7 +32,9 @@ show("1a an enum, all variants of which are those of Option or Result under othe
 show("1b a field that says whether the call was accepted, beside what it gave", matching(r"^\s*(pub )?(answer|test|code): (Answer|Test|u64),"))
 show("1c a way out by such an enum", matching(r"let (Answer::Whole|Test::Passed) = "))
 show("1d a kind as a number", matching(r"\bkind\b.*(==|<) \d|let kind = \w+ %"))
-show("1e a number that stands for a refusal, or for none", matching(r"\breturn (REFUSED_LENGTH|[01]);|^\s*2 \* depth$"))
+ends = [m for f in files if "/probe_" in f
+        for m in re.findall(r"else \{\n\s*[01]\n|^\s*_ => [01],", open(f).read(), re.M)]
+show("1e a number that stands for a refusal, or for none", matching(r"\breturn (REFUSED_LENGTH|[01]);|^\s*2 \* depth$") + ends)
 
 # 2: functions whose heads and bodies are the same but for a type, a size, a constant or what they call
 families = [

@@ -67,13 +67,15 @@ fn the_cipher_has_one_caller() {
     assert_eq!(behind, "count += 1;");
 }
 
-/// A tag is made in two places: for the subkeys, and of a node.
+/// Bytes are tagged in two places: for the subkeys, and of a node's message. A message is tagged to be compared, and to be put.
 #[test]
 fn tags_are_made_in_two_places() {
-    let callers = files_with(".tag(");
-    assert_eq!(callers, ["cmac/lib.rt", "card/tag.rt"]);
-    let named = files_with("tag::of(");
-    assert_eq!(named, ["stamp/lib.rt"]);
+    let callers = files_with("context.tag(");
+    assert_eq!(callers, ["cmac/lib.rt", "card/message.rt"]);
+    let messages = files_with(".tag(context)");
+    assert_eq!(messages, ["card/view.rt", "stamp/lib.rt"]);
+    let all = files_with(".tag(");
+    assert_eq!(all.len(), callers.len() + messages.len());
 }
 
 /// A context is made once in each of read, write, check, the making of an empty card and a plan, and each of these is handed to once.
@@ -87,13 +89,14 @@ fn each_call_makes_one_context() {
         assert_eq!(files_with(&call), ["calls/lib.rt"], "{call}");
     }
     assert_eq!(files_with("within::plan("), ["split/lib.rt"]);
+    assert_eq!(files_with("new.lay("), ["split/within.rt"]);
     // pat's is host_split::plan.
     assert_eq!(files_with("split::plan("), ["host_split/lib.rt", "pat/lib.rt"]);
     assert_eq!(files_with("host_split::plan("), ["pat/lib.rt"]);
     for part in [
         "walk::path(",
         "walk::all(",
-        "stamp::block(",
+        "new.stamp(",
         "stamp::blank(",
     ] {
         assert_eq!(files_with(part), ["work/lib.rt"], "{part}");

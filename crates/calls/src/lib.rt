@@ -6,28 +6,36 @@ ghost use Rattle.std.specs.Result.{result_unwrap_or};
 ghost use Rattle.cmac.specs.Cmac.{cmac_of};
 ghost use Rattle.cmac.specs.Traced.{subkeys_count, cmac_count};
 ghost use Rattle.tree.specs.Answer.{answer_in, limited_in};
-ghost use Rattle.tree.specs.Limits.{block_limit, length_limit, spent_limit};
+ghost use Rattle.tree.specs.Limits.{depth_limit, card_limit, block_limit, length_limit, spent_limit};
 ghost use Rattle.tree.specs.Tests.{tested};
 ghost use Rattle.tree.specs.Calls.{Gives, Reports, read, write, check, wipe, first_limits, outcome, format};
 ghost use Rattle.tree.specs.declared.Error.TheVariants.{Limit};
 
 use cmac::counted::Counted;
-use tree::{Anchor, BlockIndex, Depth, Error, Nonce, Refusal};
+use tree::{Anchor, BlockIndex, Error, Nonce, Refusal};
 
 // Makes a card of that depth with every block zero, and its anchor. No count goes with it.
 pub fn format(key: [u8; 16], depth: u64, card: &mut [u8]) -> Result<Anchor, Refusal>
     ensures { Gives (format (cmac_of key) key depth card.old) (limited_in result)
         (result_unwrap_or result (record { key = key; depth = depth; root = record { 0 = 0 } })) card.new [] }
 {
-    tree::limits::depth(depth)?;
-    tree::limits::card_length(Depth { levels: depth }, card.len())?;
     let anchor = Anchor {
         key,
         depth,
         root: Nonce(0),
     };
+    format_limits(anchor, card.len())?;
     work::blank(anchor, card);
     Ok(anchor)
+}
+
+// What a format tests.
+#[tactic(auto, unfolding(tree::specs::Limits::first_failing))]
+fn format_limits(anchor: Anchor, len: usize) -> Result<(), Refusal>
+    ensures { result ≡ tested (depth_limit anchor.depth ∷ card_limit anchor.depth len ∷ []) }
+{
+    tree::limits::depth(anchor.depth)?;
+    tree::limits::card_length(anchor.card_depth(), len)
 }
 
 // Reads a block into the buffer, where every tag on its path is right.
@@ -48,14 +56,12 @@ pub fn read(
 }
 
 // What a read tests.
+#[tactic(auto, unfolding(tree::specs::Limits::first_failing))]
 fn read_limits(anchor: Anchor, len: usize, index: BlockIndex, buffer: usize) -> Result<(), Refusal>
     ensures { result ≡ tested (first_limits anchor len ++ (block_limit anchor.depth index.0 ∷ length_limit buffer ∷ [])) }
 {
     tree::limits::first(anchor, len)?;
-    let depth = Depth {
-        levels: anchor.depth,
-    };
-    tree::limits::block_number(depth, index)?;
+    tree::limits::block_number(anchor.card_depth(), index)?;
     tree::limits::block_length(buffer)
 }
 
@@ -110,6 +116,7 @@ pub fn wipe(anchor: Anchor, card: &mut [u8]) -> Counted<Result<Anchor, Error>>
 }
 
 // What a wipe tests.
+#[tactic(auto, unfolding(tree::specs::Limits::first_failing))]
 fn wipe_limits(anchor: Anchor, len: usize) -> Result<(), Refusal>
     ensures { result ≡ tested (first_limits anchor len ++ (spent_limit anchor.depth anchor.root.0 ∷ [])) }
 {
@@ -118,7 +125,7 @@ fn wipe_limits(anchor: Anchor, len: usize) -> Result<(), Refusal>
 }
 
 // A refusal by a limit: such a call has not gone through the cipher.
-fn refused<T>(refusal: Refusal) -> Counted<Result<T, Error>>
+pub fn refused<T>(refusal: Refusal) -> Counted<Result<T, Error>>
     ensures value { result.value ≡ Err (Limit refusal) }
     ensures count { result.count ≡ 0 }
 {

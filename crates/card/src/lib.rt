@@ -1,8 +1,9 @@
 // A card that is looked at: tags of its nodes, and the nodes that a call checks.
 #![tactic(auto)]
 
-pub mod tag;
+pub mod message;
 pub mod view;
 pub mod walk;
 
-pub use view::{BlockView, CardView};
+pub use message::Message;
+pub use view::{BlockView, CardView, NodeView};

@@ -4,7 +4,7 @@ ghost use Rattle.std.specs.Iterator.{IsFinite};
 ghost use Rattle.tree.specs.Nodes.{path, pair, pairs_but_leaf, all_nodes};
 ghost use Rattle.card.specs.Walks.{Walks, GivesNodes};
 
-use crate::{BlockView, CardView};
+use crate::{BlockView, CardView, NodeView};
 use cmac::Context;
 use cmac::counted::Counted;
 use std::iter::once;
@@ -57,7 +57,8 @@ fn each<I: Iterator<Item = Node>>(context: &Context, card: &CardView, nodes: I) 
 {
     let mut count = 0u64;
     for node in nodes {
-        let tested = card.is_right(context, node);
+        let seen = NodeView { card: *card, node };
+        let tested = seen.is_right(context);
         count += tested.count;
         if !tested.value {
             return Counted {

@@ -14,14 +14,14 @@ use words::{Block, Columns, Packed};
 
 // The cipher with an expanded key.
 #[derive(Clone, Copy)]
-pub struct Aes128 {
-    pub table: RoundTable,
+pub struct Aes128<'a> {
+    pub table: RoundTable<'a>,
     pub schedule: [u8; 176],
 }
 
-impl Aes128 {
+impl<'a> Aes128<'a> {
     // Under a key.
-    pub fn new(key: [u8; 16]) -> Aes128
+    pub fn new(key: [u8; 16]) -> Aes128<'static>
         ensures { result.schedule ≡ key_expansion key }
     {
         Aes128 {
@@ -30,11 +30,12 @@ impl Aes128 {
         }
     }
 
-    // One block, whatever the expanded key holds.
+    // One block, whatever the expanded key holds. The first round key is joined column by column, so that each column keeps its own
+    // register: joined as a block, two of them share one, and the rounds are slower.
     pub fn encrypt(&self, input: Block) -> Block
         ensures { block_of result ≡ cipher_of self.now.schedule (block_of input) }
     {
-        let mut state = Columns::from(input ^ Block::at(&self.schedule, 0));
+        let mut state = Columns::from(input) ^ Columns::at(&self.schedule, 0);
         for i in 1..10 {
             state = round::whole(self.table, Columns::at(&self.schedule, 16 * i), state);
         }

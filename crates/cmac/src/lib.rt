@@ -13,10 +13,11 @@ use cipher::Aes128;
 use counted::Counted;
 use words::{Block, Packed};
 
-// The cipher under a key, and both subkeys one after the other, with the count of the cipher's calls for them.
+// The cipher under a key, and both subkeys one after the other, with the count of the cipher's calls for them. Its table is the static one:
+// any other that keeps the rule has the same bytes.
 #[derive(Clone, Copy)]
 pub struct Context {
-    pub aes: Aes128,
+    pub aes: Aes128<'static>,
     pub subkeys: [u8; 32],
     pub count: u64,
 }

@@ -1,32 +1,26 @@
 // The history of one depth: a format, and then steps that are drawn.
-ghost use Rattle.std.specs.Prelude.{◌≡◌, ◌≤◌};
-ghost use Rattle.tree.specs.Layout.{card_length};
-
-use crate::kind::{KINDS, Kind};
+use crate::kind::KINDS;
 use std::io;
-use steps::{Draw, History, Left, sum};
+use steps::{Draw, History, Left, Levels, sum};
 
 // Where the generator starts, but for the depth.
 const SEED: u64 = 0x9e37_79b9_7f4a_7c15;
 
-// How many steps follow the format, which is step 0, of the number after those of the kinds. A format has no count.
+// How many steps follow the format, which is step 0, of the number after those of the kinds.
 const STEPS: u64 = 700;
 
 // Runs and prints the history of a depth.
-pub fn run<const LEN: usize>(rt: &impl Print, levels: u64) -> io::Result<()>
-    requires levels { (1 ≤ levels) × (levels ≤ 6) }
-    requires len { LEN ≡ card_length levels }
-{
-    println!(rt; "depth {levels}")?;
-    let draw = Draw {
-        last: SEED ^ levels,
-    };
-    let (mut history, left) = History::<LEN>::format(levels, draw);
-    log(rt, 0, KINDS, left, &history)?;
+pub fn run(rt: &impl Print, levels: Levels) -> io::Result<()> {
+    let depth = levels.depth.levels;
+    let kinds = KINDS.len() as u64;
+    println!(rt; "depth {depth}")?;
+    let draw = Draw { last: SEED ^ depth };
+    let (mut history, left) = History::format(levels, draw);
+    log(rt, 0, kinds, left, &history)?;
     for number in 1..=STEPS {
-        let kind = history.turn.draw.pick(KINDS);
+        let kind = history.turn.draw.pick(kinds);
         history.draw_block();
-        let left = Kind::from(kind).step(&mut history);
+        let left = KINDS[kind as usize].step(&mut history);
         log(rt, number, kind, left, &history)?;
     }
     Ok(())
@@ -34,13 +28,7 @@ pub fn run<const LEN: usize>(rt: &impl Print, levels: u64) -> io::Result<()>
 
 // The line of a step: its number and kind, the answer's number and node, the count of the cipher's calls, the root nonce, and the sums of
 // the card, the buffer and the range buffer.
-fn log<const LEN: usize>(
-    rt: &impl Print,
-    number: u64,
-    kind: u64,
-    left: Left,
-    history: &History<LEN>,
-) -> io::Result<()> {
+fn log(rt: &impl Print, number: u64, kind: u64, left: Left, history: &History) -> io::Result<()> {
     let answer = left.answer.value;
     println!(rt;
         "{number} {kind} {} {} {} {} {} {} {}",
@@ -48,7 +36,7 @@ fn log<const LEN: usize>(
         tree::node_of(answer),
         left.answer.count,
         history.turn.anchor.root.0,
-        sum::adler(&history.card),
+        sum::adler(&history.card[..history.target.levels.bytes()]),
         left.buffer,
         left.ranges
     )

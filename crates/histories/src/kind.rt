@@ -1,9 +1,30 @@
 // The kinds of steps.
 use hostile::{mix, refuse, wipe};
-use steps::{History, Left, flip};
+use steps::{Card, History, Left, flip};
 
-// How many numbers name a kind, from 0 on.
-pub const KINDS: u64 = 19;
+// The kinds that numbers name. Five of nineteen write, two in a plan and its puts, and four read; the others are hostile, check the card,
+// or wipe it.
+pub const KINDS: [Kind; 19] = [
+    Kind::Write,
+    Kind::Write,
+    Kind::Write,
+    Kind::Write,
+    Kind::Write,
+    Kind::Read,
+    Kind::Read,
+    Kind::Read,
+    Kind::Read,
+    Kind::Check,
+    Kind::ReadFlipped,
+    Kind::CheckFlipped,
+    Kind::ReadOld,
+    Kind::Mix,
+    Kind::Refuse,
+    Kind::Keep,
+    Kind::Wipe,
+    Kind::Split,
+    Kind::SplitHostile,
+];
 
 // What a step does.
 #[derive(Clone, Copy)]
@@ -22,70 +43,38 @@ pub enum Kind {
     SplitHostile,
 }
 
-// The kind that a number names. Five of nineteen write, two in a plan and its puts, and four read; the others are hostile, check the card,
-// or wipe it.
-impl From<u64> for Kind {
-    fn from(number: u64) -> Kind {
-        match number {
-            0..=4 => Kind::Write,
-            5..=8 => Kind::Read,
-            9 => Kind::Check,
-            10 => Kind::ReadFlipped,
-            11 => Kind::CheckFlipped,
-            12 => Kind::ReadOld,
-            13 => Kind::Mix,
-            14 => Kind::Refuse,
-            15 => Kind::Keep,
-            16 => Kind::Wipe,
-            17 => Kind::Split,
-            _ => Kind::SplitHostile,
-        }
-    }
-}
-
 impl Kind {
     // Takes a step.
-    pub fn step<const LEN: usize>(self, history: &mut History<LEN>) -> Left {
-        let index = history.path.index;
+    pub fn step(self, history: &mut History) -> Left {
+        let target = history.target;
+        let index = target.index;
+        let len = target.levels.bytes();
+        let turn = &mut history.turn;
+        let copy = &history.copy[..len];
+        // Two steps, for the check takes no part of an array that is a field behind a `&mut`.
+        let bytes = &mut history.card[..];
+        let bytes = &mut bytes[..len];
         match self {
-            Kind::Write => history.turn.write(&mut history.card, index, 101),
-            Kind::Read => history.turn.read(&history.card, index, 64),
-            Kind::Check => history.turn.check(&history.card),
+            Kind::Write => turn.write(bytes, index, 101),
+            Kind::Read => turn.read(bytes, index, 64),
+            Kind::Check => turn.check(bytes),
             Kind::ReadFlipped => flip::flipped(
-                &mut history.turn,
-                &mut history.card,
-                |turn, card| { turn.read(card, index, 64) },
+                turn,
+                bytes,
+                |turn, card| turn.read(card, index, 64),
             ),
-            Kind::CheckFlipped => flip::flipped(
-                &mut history.turn,
-                &mut history.card,
-                |turn, card| turn.check(card),
-            ),
-            Kind::ReadOld => history.turn.read(&history.copy, index, 64),
-            Kind::Mix => mix::step(
-                &mut history.turn,
-                history.path.depth,
-                index,
-                &mut history.card,
-                &history.copy,
-            ),
-            Kind::Refuse => refuse::step(&mut history.turn, history.path, &mut history.card),
+            Kind::CheckFlipped => flip::flipped(turn, bytes, |turn, card| turn.check(card)),
+            Kind::ReadOld => turn.read(copy, index, 64),
+            Kind::Mix => mix::step(turn, target.levels, index, bytes, copy),
+            Kind::Refuse => refuse::step(turn, &mut Card { target, bytes }),
             Kind::Keep => {
+                let left = turn.check(bytes);
                 history.keep();
-                history.turn.check(&history.card)
+                left
             }
-            Kind::Wipe => wipe::step(
-                &mut history.turn,
-                history.path.depth.levels,
-                &mut history.card,
-                &history.copy,
-            ),
-            Kind::Split => split_steps::step(&mut history.turn, history.path, &mut history.card),
-            Kind::SplitHostile => split_steps::hostile(
-                &mut history.turn,
-                history.path,
-                &mut history.card,
-            ),
+            Kind::Wipe => wipe::step(turn, &mut Card { target, bytes }, copy),
+            Kind::Split => split_steps::step(turn, &mut Card { target, bytes }),
+            Kind::SplitHostile => split_steps::hostile(turn, &mut Card { target, bytes }),
         }
     }
 }

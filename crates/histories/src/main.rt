@@ -2,16 +2,17 @@
 #![tactic(auto)]
 
 use std::io;
+use steps::Levels;
+use tree::Depth;
 
 mod history;
 mod kind;
 
-// One history for each depth from 1 to 6, on a card of its length.
+// One history for each depth from 1 to 6.
 fn main(rt: HostRuntime) -> io::Result<()> {
-    history::run::<160>(&rt, 1)?;
-    history::run::<368>(&rt, 2)?;
-    history::run::<784>(&rt, 3)?;
-    history::run::<1616>(&rt, 4)?;
-    history::run::<3280>(&rt, 5)?;
-    history::run::<6608>(&rt, 6)
+    for levels in 1..=6 {
+        let depth = Depth { levels };
+        history::run(&rt, Levels { depth })?;
+    }
+    Ok(())
 }

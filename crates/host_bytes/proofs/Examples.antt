@@ -4,7 +4,9 @@ use mathlib.Core.List.{List, [], ◌∷◌, ◌++◌}
 use Prim.Native.Nat.{ℕ, ◌+◌, ◌*◌}
 use lib.ListN.{length, replicate}
 use Rattle.tree.specs.declared.Node.{Node}
-use Rattle.tree.specs.Answer.{Whole, Wrong}
+use Rattle.tree.specs.declared.Refusal.TheVariants.{Depth, RootNonce, CardLength, BlockNumber, BlockLength, RangeLength, NoncesSpent}
+use Rattle.tree.specs.declared.Refusal.TheVariants.{NotAwaited}
+use Rattle.tree.specs.Answer.{Whole, Wrong, Refused}
 use Rattle.tree.specs.Numbers.{be}
 use Rattle.tree.specs.Calls.{Call, lent_to}
 use Rattle.plan.specs.declared.Plan.{Plan}
@@ -31,6 +33,14 @@ plan-bytes = (refl, refl)
 pub answer-number : (code_of Whole ≡ 0) × ((u : Node) → code_of (Wrong u) ≡ 8 + 256 * u.0)
 unfolding code_of
 answer-number = (refl, λ u. refl)
+
+-- a limit names no node
+pub limit-numbers :
+    (code_of (Refused Depth) ≡ 1) × (code_of (Refused RootNonce) ≡ 2) × (code_of (Refused CardLength) ≡ 3)
+    × (code_of (Refused BlockNumber) ≡ 4) × (code_of (Refused BlockLength) ≡ 5) × (code_of (Refused RangeLength) ≡ 6)
+    × (code_of (Refused NoncesSpent) ≡ 7) × (code_of (Refused NotAwaited) ≡ 9)
+unfolding code_of
+limit-numbers = (refl, refl, refl, refl, refl, refl, refl, refl)
 
 -- "another length is refused 5, before the rest": of the anchor, and of the plan, its messages and a tag
 pub anchor-length : (s card : List ℕ) → (length s ≡ 32 → ⊥)

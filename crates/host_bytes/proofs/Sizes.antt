@@ -1,19 +1,19 @@
--- What the functions for C take by name: the node that a call or a plan names has at most 17 bits, and a tag is the block at its start.
+-- What the functions for C take by name: the node that a call or a plan names has at most 17 bits, and another length is refused.
 use mathlib.Core.Path.{◌≡◌, sym, ◌∙◌}
 use mathlib.Core.List.{List}
+use mathlib.Core.Logic.{◌≢◌}
 use Prim.Native.Nat.{ℕ, ◌<◌}
-use native.Mathlib.Omega.{arith}
-use lib.ListN.{length}
-use lib.Seq.{take_all}
-use Rattle.words.specs.Bytes.{part}
 use Rattle.tree.specs.Answer.{node_of}
 use Rattle.tree.specs.Calls.{Call, write, outcome}
 use Rattle.tree.specs.declared.Anchor.{Anchor}
 use Rattle.tree.proofs.CallLaws.{outcome-answer}
 use Rattle.tree.proofs.AnswerLaws.{node-small}
-use Rattle.plan.specs.Split.{planned}
+use lib.ListN.{length}
+use Rattle.plan.specs.Split.{planned, message_room}
 use Rattle.plan.proofs.PlanLaws.{plan-answer}
-use Rattle.host_bytes.specs.Split.{tag_bytes}
+use Rattle.host_bytes.specs.Host.{refused_length}
+use Rattle.host_bytes.specs.Split.{plan_bytes, host_plan, HostsPlan, host_put, HostsPut}
+use Rattle.host_bytes.proofs.SplitLaws.{plan-unmeasured, put-unmeasured}
 
 pub call : (F : List ℕ → List ℕ) (a : Anchor) (card : List ℕ) (c : Call) → node_of (outcome F a card c).answer < 131072
 call = node-small
@@ -24,5 +24,12 @@ plan F a card i block ranges =
     rw (plan-answer F a card i block ranges ∙ sym (outcome-answer F a card (write i block ranges)))
     (node-small F a card (write i block ranges))
 
-pub tag : (tag : List ℕ) → length tag ≡ tag_bytes → part tag 0 16 ≡ tag
-tag x e = take_all 16 x (omega arith)
+-- messages of another length, where the plan's bytes are lent as an array
+pub messages : (s card : List ℕ) (i : ℕ) (block ranges p ms : List ℕ) → length ms ≢ message_room → {lent : List ℕ} → lent ≡ p
+    → HostsPlan (host_plan s card i block ranges p ms) refused_length lent card ranges ms
+messages s card i block ranges p ms d e = rw e (plan-unmeasured s card i block ranges p ms (λ l. d l.2))
+
+-- a put's plan of another length, where the anchor's bytes are lent as an array
+pub put : (s p card : List ℕ) (u : ℕ) (tag : List ℕ) → length p ≢ plan_bytes → {lent : List ℕ} → lent ≡ s
+    → HostsPut (host_put s p card u tag) refused_length lent p card
+put s p card u tag d e = rw e (put-unmeasured s p card u tag (λ l. d l.1))

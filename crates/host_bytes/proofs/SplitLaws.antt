@@ -1,15 +1,18 @@
 -- What a plan and a put for C come to where the lengths are right and where not.
-use mathlib.Core.Path.{◌≡◌, refl}
-use mathlib.Core.Bool.{Bool, true, false, ◌&&◌}
+use mathlib.Core.Path.{◌≡◌, refl, sym, ap, ap₂, ◌∙◌}
+use mathlib.Core.Bool.{Bool, true, false, cond, ◌&&◌}
 use mathlib.Core.List.{List}
 use Prim.Native.Nat.{ℕ}
 use borrow.Author.Tests.{eq-eqb, eqb-true}
 use lib.Dec.{eqb}
 use lib.ListN.{length}
 use Rattle.cmac.specs.Cmac.{cmac_of}
-use Rattle.plan.specs.Split.{planned, message_room, put}
-use Rattle.host_bytes.specs.Host.{anchor_bytes, anchor_of, refused_length}
-use Rattle.host_bytes.specs.Split.{plan_bytes, plan_of, tag_bytes, hosted_plan, host_plan, HostsPlan}
+use Rattle.tree.specs.declared.Anchor.{Anchor}
+use Rattle.tree.specs.Answer.{Answer, is_whole}
+use Rattle.plan.specs.Split.{planned, Plans, message_room, put}
+use Rattle.plan.specs.declared.Plan.{Plan}
+use Rattle.host_bytes.specs.Host.{anchor_bytes, anchor_of, code_of, refused_length}
+use Rattle.host_bytes.specs.Split.{plan_bytes, plan_of, bytes_of, tag_bytes, hosted_plan, host_plan, HostsPlan}
 use Rattle.host_bytes.specs.Split.{hosted_put, host_put, HostsPut}
 
 -- Lengths
@@ -50,6 +53,26 @@ module _ (anchor card : List ℕ) (i : ℕ) (block ranges plan messages : List �
       host_plan anchor card i block ranges plan messages ≡ hosted_plan plan messages (planned (cmac_of a.key) a card i block ranges)
   unfolding host_plan
   host-plan l = rw (all_right anchor plan messages message_room l)
+
+  -- a plan that is made of lengths that are right, and put into its bytes
+  pub plan_measured : {a : Anchor} {p ms : List ℕ} {subkeys : ℕ} {each : List ℕ → ℕ} {answer : Answer} {count : ℕ} {made : Plan}
+      {left filled gave : List ℕ} {code : ℕ} {bytes : List ℕ}
+      → Plans subkeys each (planned (cmac_of a.key) a card i block ranges) ms answer count a made left filled gave
+      → code ≡ code_of answer → bytes ≡ cond (is_whole answer) (bytes_of made) p → a ≡ anchor_of anchor → p ≡ plan
+      → length anchor ≡ anchor_bytes → length plan ≡ plan_bytes → length messages ≡ message_room → ms ≡ messages
+      → HostsPlan (host_plan anchor card i block ranges plan messages) code bytes left filled gave
+  plan_measured {answer = answer} {made = made} k c b e f l n r m =
+      let g = k.reports.gives in
+      rw (host-plan (l, n, r), sym e, sym m)
+      (record {
+        coded = c ∙ ap code_of g.answered;
+        planned =
+            b ∙ ap (cond (is_whole answer) (bytes_of made)) f
+            ∙ ap₂ (λ (x : Answer) (q : Plan). cond (is_whole x) (bytes_of q) plan) g.answered k.planned;
+        left = g.left;
+        filled = g.filled;
+        gave = k.gave;
+      })
 
 -- The put
 

@@ -1,10 +1,13 @@
 // The anchor as bytes.
 ghost use Rattle.std.specs.Prelude.{◌≡◌, cond, ◌++◌, ◌+◌, ◌≤◌, eqb, length, take};
+ghost use Rattle.std.specs.Result.{result_unwrap_or};
 ghost use Rattle.words.specs.Bytes.{part};
 ghost use Rattle.tree.specs.Numbers.{be8};
-ghost use Rattle.host_bytes.specs.Host.{anchor_bytes, number, anchor_of};
+ghost use Rattle.tree.specs.Answer.{is_whole, answer_in};
+ghost use Rattle.host_bytes.specs.Host.{anchor_of, number};
 
-use tree::{Anchor, Nonce, numbers};
+use crate::ANCHOR_BYTES;
+use tree::{Anchor, Error, Nonce, numbers};
 use words::{Block, Packed};
 
 // The number in eight bytes from one of them on.
@@ -15,10 +18,9 @@ pub fn number_at(bytes: &[u8], start: usize) -> u64
     numbers::be(u64::at(bytes, start))
 }
 
-// The anchor that the bytes stand for.
+// The anchor that the bytes stand for. A function, since a `From` would be another crate's trait between types of other crates.
 #[tactic(auto, unfolding(crate::specs::Host::anchor_of))]
-pub fn of(bytes: &[u8]) -> Anchor
-    requires { length bytes.now ≡ anchor_bytes }
+pub fn of(bytes: &[u8; ANCHOR_BYTES]) -> Anchor
     ensures { result ≡ anchor_of bytes.now }
 {
     Anchor {
@@ -29,20 +31,28 @@ pub fn of(bytes: &[u8]) -> Anchor
 }
 
 // Puts a root nonce into the bytes.
-pub fn put_root(bytes: &mut [u8], root: Nonce)
-    requires { length bytes.old ≡ anchor_bytes }
+pub fn put_root(bytes: &mut [u8; ANCHOR_BYTES], root: Nonce)
     ensures { bytes.new ≡ take 24 bytes.old ++ be8 root.0 }
 {
     numbers::be(root.0).put(bytes, 24);
 }
 
 // The same where the root nonce has moved from another.
-pub fn put_moved(bytes: &mut [u8], from: Nonce, root: Nonce)
-    requires { length bytes.old ≡ anchor_bytes }
+pub fn put_moved(bytes: &mut [u8; ANCHOR_BYTES], from: Nonce, root: Nonce)
     ensures { bytes.new
         ≡ cond (eqb root.0 from.0) bytes.old (take 24 bytes.old ++ be8 root.0) }
 {
     if root != from {
         put_root(bytes, root);
+    }
+}
+
+// The same of a call that moves the anchor, where it is accepted.
+pub fn settle(bytes: &mut [u8; ANCHOR_BYTES], moved: Result<Anchor, Error>)
+    ensures { bytes.new ≡ cond (is_whole (answer_in moved))
+        (take 24 bytes.old ++ be8 (result_unwrap_or moved (anchor_of bytes.old)).root.0) bytes.old }
+{
+    if let Ok(anchor) = moved {
+        put_root(bytes, anchor.root);
     }
 }

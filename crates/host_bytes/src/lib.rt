@@ -6,13 +6,9 @@ pub mod anchor;
 pub mod code;
 pub mod plan_bytes;
 
-// How long an anchor, a plan, the messages of a plan and a tag are, and what a function answers to one of another length.
+// How long an anchor and a plan are, and what a function answers to one of another length.
 pub const ANCHOR_BYTES: usize = 32;
 
 pub const PLAN_BYTES: usize = 24;
-
-pub const MESSAGE_BYTES: usize = 656;
-
-pub const TAG_BYTES: usize = 16;
 
 pub const REFUSED_LENGTH: u64 = 5;

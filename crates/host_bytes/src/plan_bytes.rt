@@ -1,17 +1,19 @@
 // The plan as bytes.
-ghost use Rattle.std.specs.Prelude.{◌≡◌, ◌++◌, length, take};
+ghost use Rattle.std.specs.Prelude.{◌≡◌, cond, ◌++◌, take};
+ghost use Rattle.std.specs.Result.{result_unwrap_or};
 ghost use Rattle.tree.specs.Numbers.{be8};
-ghost use Rattle.host_bytes.specs.Split.{plan_bytes, plan_of, bytes_of};
+ghost use Rattle.tree.specs.Answer.{is_whole, answer_in};
+ghost use Rattle.plan.specs.Split.{no_plan};
+ghost use Rattle.host_bytes.specs.Split.{plan_of, bytes_of};
 
-use crate::anchor;
+use crate::{PLAN_BYTES, anchor};
 use plan::Plan;
-use tree::{BlockIndex, Nonce, numbers};
+use tree::{BlockIndex, Error, Nonce, numbers};
 use words::Packed;
 
-// The plan that the bytes stand for.
+// The plan that the bytes stand for; no `From`, as the anchor's.
 #[tactic(auto, unfolding(crate::specs::Split::plan_of))]
-pub fn of(bytes: &[u8]) -> Plan
-    requires { length bytes.now ≡ plan_bytes }
+pub fn of(bytes: &[u8; PLAN_BYTES]) -> Plan
     ensures { result ≡ plan_of bytes.now }
 {
     Plan {
@@ -22,8 +24,7 @@ pub fn of(bytes: &[u8]) -> Plan
 }
 
 // Puts a plan into the bytes.
-pub fn put(bytes: &mut [u8], plan: Plan)
-    requires { length bytes.old ≡ plan_bytes }
+pub fn put(bytes: &mut [u8; PLAN_BYTES], plan: Plan)
     ensures { bytes.new ≡ bytes_of plan }
 {
     numbers::be(plan.index.0).put(bytes, 0);
@@ -31,9 +32,18 @@ pub fn put(bytes: &mut [u8], plan: Plan)
     numbers::be(plan.filled).put(bytes, 16);
 }
 
+// The same of a call that makes a plan, where it is accepted. The anchor's `settle` is alike, but puts 8 bytes of 32, of another type.
+pub fn settle(bytes: &mut [u8; PLAN_BYTES], made: Result<Plan, Error>)
+    ensures { bytes.new
+        ≡ cond (is_whole (answer_in made)) (bytes_of (result_unwrap_or made no_plan)) bytes.old }
+{
+    if let Ok(plan) = made {
+        put(bytes, plan);
+    }
+}
+
 // Puts the filled places into the bytes.
-pub fn put_filled(bytes: &mut [u8], filled: u64)
-    requires { length bytes.old ≡ plan_bytes }
+pub fn put_filled(bytes: &mut [u8; PLAN_BYTES], filled: u64)
     ensures { bytes.new ≡ take 16 bytes.old ++ be8 filled }
 {
     numbers::be(filled).put(bytes, 16);

@@ -4,14 +4,11 @@
 
 ghost use Rattle.host_bytes.specs.Split.{host_plan, HostsPlan, host_put, HostsPut};
 
-use host_bytes::{
-    ANCHOR_BYTES, MESSAGE_BYTES, PLAN_BYTES, REFUSED_LENGTH, TAG_BYTES, anchor, code, plan_bytes,
-};
+use host_bytes::{REFUSED_LENGTH, anchor, code, plan_bytes};
 use tree::{BlockIndex, Error, Node};
-use words::{Block, Packed};
 
 // Plans a write whose tags come singly: puts its labels on the card, its ranges, the plan and the messages into their buffers.
-#[tactic(auto, unfolding(host_bytes::specs::Host::code_of, host_bytes::specs::Split::host_plan), using(host_bytes::proofs::Sizes::plan))]
+#[tactic(auto, unfolding(host_bytes::specs::Split::host_plan), using(host_bytes::proofs::Sizes::plan, host_bytes::proofs::Sizes::messages))]
 pub fn plan(
     anchor: &[u8],
     card: &mut [u8],
@@ -26,40 +23,43 @@ pub fn plan(
         plan.old messages.old)
         result plan.new card.new ranges.new messages.new }
 {
-    if anchor.len() != ANCHOR_BYTES || plan.len() != PLAN_BYTES {
+    let Some(anchor) = anchor.as_array() else {
         return REFUSED_LENGTH;
-    }
-    let Some(messages) = messages.as_mut_array::<MESSAGE_BYTES>() else {
+    };
+    let Some(plan) = plan.as_mut_array() else {
+        return REFUSED_LENGTH;
+    };
+    let Some(messages) = messages.as_mut_array() else {
         return REFUSED_LENGTH;
     };
     let given = anchor::of(anchor);
-    match split::plan(given, card, BlockIndex(index), block, ranges, messages).value {
-        Ok(made) => {
-            plan_bytes::put(plan, made);
-            0
-        }
-        Err(error) => code::of_error(error),
-    }
+    let made = split::plan(given, card, BlockIndex(index), block, ranges, messages).value;
+    plan_bytes::settle(plan, made);
+    code::of(made)
 }
 
 // Puts one tag of a plan on the card, and notes it in the plan. The last one puts the new root nonce into the anchor.
-#[tactic(auto, unfolding(host_bytes::specs::Host::code_of, host_bytes::specs::Split::host_put), using(host_bytes::proofs::Sizes::tag))]
+#[tactic(auto, unfolding(host_bytes::specs::Split::host_put), using(host_bytes::proofs::Sizes::put))]
 pub fn put_tag(anchor: &mut [u8], plan: &mut [u8], card: &mut [u8], node: u64, tag: &[u8]) -> u64
     ensures { HostsPut
         (host_put anchor.old plan.old card.old node tag.now)
         result anchor.new plan.new card.new }
 {
-    if anchor.len() != ANCHOR_BYTES || plan.len() != PLAN_BYTES || tag.len() != TAG_BYTES {
+    let Some(tag) = tag.as_array() else {
         return REFUSED_LENGTH;
-    }
+    };
+    let Some(anchor) = anchor.as_mut_array() else {
+        return REFUSED_LENGTH;
+    };
+    let Some(plan) = plan.as_mut_array() else {
+        return REFUSED_LENGTH;
+    };
     let given = anchor::of(anchor);
     let kept = plan_bytes::of(plan);
-    match split::put_tag(given, kept, card, Node(node), Block::at(tag, 0).into()) {
-        Ok(placed) => {
-            plan_bytes::put_filled(plan, placed.plan.filled);
-            anchor::put_moved(anchor, given.root, placed.anchor.root);
-            0
-        }
-        Err(refusal) => code::of_error(Error::from(refusal)),
+    let answer = split::put_tag(given, kept, card, Node(node), *tag).map_err(Error::from);
+    if let Ok(placed) = answer {
+        plan_bytes::put_filled(plan, placed.plan.filled);
+        anchor::put_moved(anchor, given.root, placed.anchor.root);
     }
+    code::of(answer)
 }

@@ -1,9 +1,6 @@
 // Calls that a limit refuses.
-ghost use Rattle.std.specs.Prelude.{◌≡◌, ◌≤◌, length};
-ghost use Rattle.tree.specs.Layout.{card_length};
-
-use steps::{Left, Turn, short};
-use tree::{BlockIndex, Nonce, Path};
+use steps::{Card, Left, Levels, Turn, short};
+use tree::{BlockIndex, Nonce};
 
 // What is too short for a read or a write, or too high.
 #[derive(Clone, Copy)]
@@ -14,35 +11,19 @@ enum Bad {
     Ranges,
 }
 
-// The one that a number picks.
-impl From<u64> for Bad {
-    fn from(drawn: u64) -> Bad {
-        match drawn % 4 {
-            0 => Bad::Card,
-            1 => Bad::Block,
-            2 => Bad::Buffer,
-            _ => Bad::Ranges,
-        }
-    }
-}
-
 // A card or a buffer that is too short, or a block past the last.
-pub fn step(turn: &mut Turn, path: Path, card: &mut [u8]) -> Left
-    requires levels { (1 ≤ path.depth.levels) × (path.depth.levels ≤ 6) }
-    requires card { length card.old ≡ card_length path.depth.levels }
-{
-    let index = path.index;
-    match Bad::from(turn.draw.next()) {
-        Bad::Card => short::by_one(card, |card| turn.read(card, index, 64)),
+pub fn step(turn: &mut Turn, card: &mut Card) -> Left {
+    let target = card.target;
+    let index = target.index;
+    let bads = [Bad::Card, Bad::Block, Bad::Buffer, Bad::Ranges];
+    match turn.draw.pick_of(&bads) {
+        Bad::Card => short::by_one(card.bytes, |card| turn.read(card, index, 64)),
         Bad::Block => {
-            let past = BlockIndex(path.depth.leaves() + index.0);
-            turn.read(card, past, 64)
+            let past = BlockIndex(target.levels.blocks() + index.0);
+            turn.read(card.bytes, past, 64)
         }
-        Bad::Buffer => turn.read(card, index, 63),
-        Bad::Ranges => {
-            let short = (16 * path.depth.levels - 1) as usize;
-            turn.write(card, index, short)
-        }
+        Bad::Buffer => turn.read(card.bytes, index, 63),
+        Bad::Ranges => turn.write(card.bytes, index, target.levels.short_ranges()),
     }
 }
 
@@ -55,25 +36,16 @@ enum BadWipe {
     NoncesSpent,
 }
 
-// The one that a number picks.
-impl From<u64> for BadWipe {
-    fn from(drawn: u64) -> BadWipe {
-        match drawn % 4 {
-            0 => BadWipe::Card,
-            1 => BadWipe::Depth,
-            2 => BadWipe::RootNonce,
-            _ => BadWipe::NoncesSpent,
-        }
-    }
-}
-
 // A wipe of a card that is too short, or under another anchor: with a depth past the last, with a root nonce that is no multiple of the
 // depth, or with one after which none are left. The anchor stays.
-pub fn wipe(turn: &mut Turn, levels: u64, card: &mut [u8]) -> Left
-    requires levels { (1 ≤ levels) × (levels ≤ 6) }
-    requires len { 1 ≤ length card.old }
-{
-    let bad = BadWipe::from(turn.draw.next());
+pub fn wipe(turn: &mut Turn, levels: Levels, card: &mut [u8]) -> Left {
+    let bad = turn.draw.pick_of(&[
+        BadWipe::Card,
+        BadWipe::Depth,
+        BadWipe::RootNonce,
+        BadWipe::NoncesSpent,
+    ]);
+    let levels = levels.depth.levels;
     let mut other = *turn;
     match bad {
         BadWipe::Card => return short::by_one(card, |card| other.wipe(card)),

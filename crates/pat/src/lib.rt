@@ -11,45 +11,41 @@ ghost use Rattle.tree.specs.Calls.{read, write, check, wipe, outcome};
 ghost use Rattle.host_bytes.specs.Host.{Hosts, host_call, host_format, Codes};
 ghost use Rattle.host_bytes.specs.Split.{host_plan, HostsPlan, host_put, HostsPut};
 
-use host_bytes::{ANCHOR_BYTES, REFUSED_LENGTH, anchor, code};
+use host_bytes::{REFUSED_LENGTH, anchor, code};
 use tree::{Anchor, BlockIndex, Error};
 
 // Formats the card, and sets the anchor's root nonce to 0.
 #[unsafe(no_mangle)]
-#[tactic(auto, unfolding(host_bytes::specs::Host::code_of, host_bytes::specs::Host::host_format))]
+#[tactic(auto, unfolding(host_bytes::specs::Host::host_format))]
 pub extern "C" fn pat_format(anchor: &mut [u8], card: &mut [u8]) -> u64
     ensures { Hosts (host_format anchor.old card.old) result anchor.new card.new [] }
 {
-    if anchor.len() != ANCHOR_BYTES {
+    let Some(anchor) = anchor.as_mut_array() else {
         return REFUSED_LENGTH;
-    }
+    };
     let given = anchor::of(anchor);
-    match calls::format(given.key, given.depth, card) {
-        Ok(made) => {
-            anchor::put_root(anchor, made.root);
-            0
-        }
-        Err(refusal) => code::of_error(Error::from(refusal)),
-    }
+    let made = calls::format(given.key, given.depth, card).map_err(Error::from);
+    anchor::settle(anchor, made);
+    code::of(made)
 }
 
 // Reads a block into the buffer.
 #[unsafe(no_mangle)]
-#[tactic(auto, unfolding(host_bytes::specs::Host::code_of, host_bytes::specs::Host::host_call), using(host_bytes::proofs::Sizes::call))]
+#[tactic(auto, unfolding(host_bytes::specs::Host::host_call), using(host_bytes::proofs::Sizes::call))]
 pub extern "C" fn pat_read(anchor: &[u8], card: &[u8], index: u64, buffer: &mut [u8]) -> u64
     ensures { Hosts (host_call anchor.now card.now (read index buffer.old))
         result anchor.now card.now buffer.new }
 {
-    if anchor.len() != ANCHOR_BYTES {
+    let Some(anchor) = anchor.as_array() else {
         return REFUSED_LENGTH;
-    }
+    };
     let given = anchor::of(anchor);
     code::of(calls::read(given, card, BlockIndex(index), buffer).value)
 }
 
 // Writes a block, and puts the new root nonce into the anchor.
 #[unsafe(no_mangle)]
-#[tactic(auto, unfolding(host_bytes::specs::Host::code_of, host_bytes::specs::Host::host_call), using(host_bytes::proofs::Sizes::call))]
+#[tactic(auto, unfolding(host_bytes::specs::Host::host_call), using(host_bytes::proofs::Sizes::call))]
 pub extern "C" fn pat_write(
     anchor: &mut [u8],
     card: &mut [u8],
@@ -61,54 +57,46 @@ pub extern "C" fn pat_write(
         (host_call anchor.old card.old (write index block.now ranges.old))
         result anchor.new card.new ranges.new }
 {
-    if anchor.len() != ANCHOR_BYTES {
+    let Some(anchor) = anchor.as_mut_array() else {
         return REFUSED_LENGTH;
-    }
+    };
     let given = anchor::of(anchor);
-    match calls::write(given, card, BlockIndex(index), block, ranges).value {
-        Ok(moved) => {
-            anchor::put_root(anchor, moved.root);
-            0
-        }
-        Err(error) => code::of_error(error),
-    }
+    let moved = calls::write(given, card, BlockIndex(index), block, ranges).value;
+    anchor::settle(anchor, moved);
+    code::of(moved)
 }
 
 // Checks every tag of the card.
 #[unsafe(no_mangle)]
-#[tactic(auto, unfolding(host_bytes::specs::Host::code_of, host_bytes::specs::Host::host_call), using(host_bytes::proofs::Sizes::call))]
+#[tactic(auto, unfolding(host_bytes::specs::Host::host_call), using(host_bytes::proofs::Sizes::call))]
 pub extern "C" fn pat_check(anchor: &[u8], card: &[u8]) -> u64
     ensures { Hosts (host_call anchor.now card.now check) result anchor.now card.now [] }
 {
-    if anchor.len() != ANCHOR_BYTES {
+    let Some(anchor) = anchor.as_array() else {
         return REFUSED_LENGTH;
-    }
+    };
     let given = anchor::of(anchor);
     code::of(calls::check(given, card).value)
 }
 
 // Empties the card under the same key, and puts the new root nonce into the anchor.
 #[unsafe(no_mangle)]
-#[tactic(auto, unfolding(host_bytes::specs::Host::code_of, host_bytes::specs::Host::host_call), using(host_bytes::proofs::Sizes::call))]
+#[tactic(auto, unfolding(host_bytes::specs::Host::host_call), using(host_bytes::proofs::Sizes::call))]
 pub extern "C" fn pat_wipe(anchor: &mut [u8], card: &mut [u8]) -> u64
     ensures { Hosts (host_call anchor.old card.old wipe) result anchor.new card.new [] }
 {
-    if anchor.len() != ANCHOR_BYTES {
+    let Some(anchor) = anchor.as_mut_array() else {
         return REFUSED_LENGTH;
-    }
+    };
     let given = anchor::of(anchor);
-    match calls::wipe(given, card).value {
-        Ok(wiped) => {
-            anchor::put_root(anchor, wiped.root);
-            0
-        }
-        Err(error) => code::of_error(error),
-    }
+    let wiped = calls::wipe(given, card).value;
+    anchor::settle(anchor, wiped);
+    code::of(wiped)
 }
 
 // The write for boot code, which has the anchor as a struct in memory of its own: accepted, it moves the anchor in its place.
 #[unsafe(no_mangle)]
-#[tactic(auto, unfolding(host_bytes::specs::Host::code_of), using(host_bytes::proofs::Sizes::call))]
+#[tactic(auto, using(host_bytes::proofs::Sizes::call))]
 pub extern "C" fn pat_write_in_place(
     anchor: &mut Anchor,
     card: &mut [u8],
@@ -121,13 +109,11 @@ pub extern "C" fn pat_write_in_place(
         (write index block.now ranges.old))
         result anchor.new card.new ranges.new }
 {
-    match calls::write(*anchor, card, BlockIndex(index), block, ranges).value {
-        Ok(moved) => {
-            *anchor = moved;
-            0
-        }
-        Err(error) => code::of_error(error),
+    let answer = calls::write(*anchor, card, BlockIndex(index), block, ranges).value;
+    if let Ok(moved) = answer {
+        *anchor = moved;
     }
+    code::of(answer)
 }
 
 // Plans a write whose tags come singly: puts its labels on the card, its ranges, the plan and the messages into their buffers.

@@ -1,5 +1,5 @@
-// The calls of pat for C, as a static library: each export has the name and the contract of a function of pat, and calls it. pat's file
-// says what each does, and how bytes and numbers pass.
+// The calls of pat for C, as a static library: each export has the name and the contract of a function of pat, and calls it, since a crate
+// is either a library for others or a static library for C. pat's file says what each does, and how bytes and numbers pass.
 #![tactic(auto)]
 
 ghost use Rattle.std.specs.Prelude.{[]};

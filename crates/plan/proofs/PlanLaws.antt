@@ -7,7 +7,8 @@ use mathlib.Core.Logic.{◌⊎◌, inl, inr, ⊎_elim}
 use Prim.Native.Nat.{ℕ, zero, suc, ◌+◌, ◌*◌, ◌/◌, ◌^◌, ◌<◌, ◌≤◌}
 use native.Mathlib.Nat.{pow-suc}
 use native.Mathlib.Omega.{arith}
-use lib.ListN.{length}
+use lib.ListN.{length, drop}
+use Rattle.std.proofs.lemmas.Slice.{drop-append-drop}
 use Rattle.words.proofs.Cases.{equal_or_not}
 use Rattle.tree.specs.Layout.{IsNode, card_length, label, tag}
 use Rattle.tree.specs.Nodes.{up_to, path_node, path, pairs}
@@ -24,9 +25,18 @@ use Rattle.tree.proofs.WriteLaws.{Labelled, labelled-message}
 use Rattle.tree.proofs.CallLaws.{accepted, outcome-done}
 use Rattle.plan.specs.Places.{rising_pair, plan_nodes}
 use Rattle.plan.specs.Rule.{Rising}
-use Rattle.plan.specs.Split.{Given, given, Planned, no_plan, plan_done, plan_settled, planned}
+use Rattle.plan.specs.Split.{Given, given, Planned, joined, Plans, no_plan, plan_done, plan_settled, planned}
+use Rattle.plan.specs.declared.Plan.{Plan}
 use Rattle.plan.proofs.PlaceLaws.{plan-pairs, pairs-plan}
 use Rattle.plan.proofs.LaidLaws.{laid-label, laid-tag}
+
+-- the bytes behind the messages stay
+pub messages-keep : {subkeys : ℕ} {each : List ℕ → ℕ} {o : Planned} {buffer : List ℕ} {answer : Answer} {count : ℕ} {a : Anchor} {p : Plan}
+    {card lent messages : List ℕ} → Plans subkeys each o buffer answer count a p card lent messages
+    → drop (length (joined o.messages)) messages ≡ drop (length (joined o.messages)) buffer
+messages-keep {o = o} {buffer = buffer} k =
+    let n = length (joined o.messages) in
+    ap (drop n) k.gave ∙ drop-append-drop n buffer (joined o.messages) n (omega arith) refl
 
 -- What it answers
 

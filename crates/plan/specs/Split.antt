@@ -32,7 +32,7 @@ pub record Planned : Type 0 where
   pub plan : Plan
   pub messages : List Given
 
--- what a refused plan hands out: no card has its block, so that it waits for nothing
+-- what stands for the plan of a refused one: no card has its block, so that it waits for nothing
 abbrev pub no_plan : Plan
 no_plan = record { index = record { 0 = 65536 }; root = record { 0 = 0 }; filled = 0 }
 

@@ -2,12 +2,15 @@
 // calls, a plan and a put.
 #![tactic(auto)]
 
-ghost use Rattle.std.specs.Prelude.{◌≡◌, true, [], ◌∷◌, ◌^◌, ◌≤◌, ◌<◌, ◌*◌, unwrap_or, IfSome};
+ghost use Rattle.std.specs.Prelude.{◌≡◌, true, false, [], ◌∷◌, ◌^◌, ◌≤◌, ◌<◌, ◌*◌, unwrap_or, IfSome, MatchOption};
 ghost use Rattle.tree.specs.Tests.{tested};
-ghost use Rattle.plan.specs.Places.{place_in, plan_nodes, awaits, fill, full};
+ghost use Rattle.plan.specs.Places.{place_in, place_of, plan_nodes, awaits, fill, full};
 ghost use Rattle.plan.specs.Split.{place_limit};
 
 use tree::{BlockIndex, Depth, Node, Nonce, Path, Refusal};
+
+// How many bytes the messages of a plan take at the highest depth, and so their buffer at every depth.
+pub const MESSAGE_BYTES: usize = 656;
 
 // What is kept between a plan and its last tag, and trusted like the anchor: the block's number, the root nonce that the last tag brings,
 // and a bit for each place, set where its tag was put.
@@ -32,42 +35,50 @@ fn place(path: Path, node: Node) -> Option<u64>
     ensures below { IfSome result (λ place. place < 2 * path.depth.levels) }
 {
     for level in 0..path.depth.levels {
-        if node.0 / 2 == path.node(level).0 {
-            return Some(2 * level + node.0 % 2);
+        if node.parent() == path.node(level) {
+            return Some(2 * level + node.side() as u64);
         }
     }
     None
 }
 
 impl Plan {
-    // 9: the plan waits for the tag of that node.
-    pub fn awaits(self, depth: Depth, node: Node) -> Result<(), Refusal>
-        ensures { result ≡ tested (place_limit depth.levels self node.0 ∷ []) }
+    // The place of a node, where the plan waits for its tag.
+    fn open_place(self, depth: Depth, node: Node) -> Option<u64>
+        ensures { MatchOption result (awaits depth.levels self node.0 ≡ false)
+            (λ place. (awaits depth.levels self node.0 ≡ true) × (place ≡ place_of depth.levels self node.0)) }
     {
-        if self.index.0 < depth.leaves() {
-            let path = Path {
-                depth,
-                index: self.index,
-            };
-            if let Some(place) = place(path, node) {
-                if (self.filled >> place) % 2 == 0 {
-                    return Ok(());
-                }
-            }
+        if depth.leaves() <= self.index.0 {
+            return None;
         }
-        Err(Refusal::NotAwaited)
-    }
-
-    // The plan with one place more filled.
-    pub fn fill(self, depth: Depth, node: Node) -> Plan
-        requires { awaits depth.levels self node.0 ≡ true }
-        ensures { result ≡ fill depth.levels self node.0 }
-    {
         let path = Path {
             depth,
             index: self.index,
         };
-        match place(path, node) {
+        let place = place(path, node)?;
+        if (self.filled >> place) % 2 == 0 {
+            Some(place)
+        } else {
+            None
+        }
+    }
+
+    // 9: the plan waits for the tag of that node.
+    pub fn awaits(self, depth: Depth, node: Node) -> Result<(), Refusal>
+        ensures { result ≡ tested (place_limit depth.levels self node.0 ∷ []) }
+    {
+        match self.open_place(depth, node) {
+            Some(_) => Ok(()),
+            None => Err(Refusal::NotAwaited),
+        }
+    }
+
+    // The plan with one place more filled. It waits for that one, so the arm `None` is never reached.
+    pub fn fill(self, depth: Depth, node: Node) -> Plan
+        requires { awaits depth.levels self node.0 ≡ true }
+        ensures { result ≡ fill depth.levels self node.0 }
+    {
+        match self.open_place(depth, node) {
             Some(place) => Plan {
                 filled: self.filled + bit(place),
                 ..self

@@ -18,11 +18,10 @@ pub extern "C" fn probe_sbox(out: &mut [u8]) -> u64
     ensures { ((length out.old ≡ 256) → (result ≡ 0) × IsSBox out.new)
         × ((length out.old ≡ 256 → ⊥) → (result ≡ 1) × (out.new ≡ out.old)) }
 {
-    if out.len() != 256 {
+    let Some(out) = out.as_mut_array() else {
         return 1;
-    }
-    let bytes = SBox::new().bytes;
-    out.copy_from_slice(bytes);
+    };
+    *out = *SBox::new().bytes;
     0
 }
 
@@ -32,11 +31,14 @@ pub extern "C" fn probe_expand(key: &[u8], out: &mut [u8]) -> u64
     ensures { Told (sized key.now 16 && sized out.old 176) (key_expansion key.now)
         out.old out.new result }
 {
-    if key.len() != 16 || out.len() != 176 {
-        return 1;
+    if let Some(key) = key.as_array()
+        && let Some(out) = out.as_mut_array()
+    {
+        *out = cipher::key::expand(*key);
+        0
+    } else {
+        1
     }
-    work::expand(key, out);
-    0
 }
 
 // One block under a key.
@@ -45,11 +47,15 @@ pub extern "C" fn probe_encrypt(key: &[u8], block: &[u8], out: &mut [u8]) -> u64
     ensures { Told (sized key.now 16 && (sized block.now 16 && sized out.old 16))
         (encrypt_of key.now block.now) out.old out.new result }
 {
-    if key.len() != 16 || block.len() != 16 || out.len() != 16 {
-        return 1;
+    if let Some(key) = key.as_array()
+        && let Some(block) = block.as_array()
+        && let Some(out) = out.as_mut_array()
+    {
+        work::encrypt(key, block, out);
+        0
+    } else {
+        1
     }
-    work::encrypt(key, block, out);
-    0
 }
 
 // A block encrypted count times, one after the other.
@@ -58,9 +64,12 @@ pub extern "C" fn probe_encrypt_chain(key: &[u8], block: &mut [u8], count: u64) 
     ensures { Told (sized key.now 16 && sized block.old 16)
         (repeated (encrypt_of key.now) block.old count) block.old block.new result }
 {
-    if key.len() != 16 || block.len() != 16 {
-        return 1;
+    if let Some(key) = key.as_array()
+        && let Some(block) = block.as_mut_array()
+    {
+        work::encrypt_chain(key, block, count);
+        0
+    } else {
+        1
     }
-    work::encrypt_chain(key, block, count);
-    0
 }

@@ -1,35 +1,26 @@
-// The work behind each exported function, once the lengths are right.
-ghost use Rattle.std.specs.Prelude.{◌≡◌, length};
+// The work behind the exported functions that go through the cipher, once the lengths are right.
+ghost use Rattle.std.specs.Prelude.{◌≡◌};
 ghost use Rattle.cipher.specs.Cipher.{encrypt_of};
-ghost use Rattle.cipher.specs.KeyExpansion.{key_expansion};
 ghost use Rattle.probe.specs.Told.{repeated};
 
 use cipher::Aes128;
 use words::{Block, Packed};
 
-pub fn expand(key: &[u8], out: &mut [u8])
-    requires { (length key.now ≡ 16) × (length out.old ≡ 176) }
-    ensures { out.new ≡ key_expansion key.now }
-{
-    out.copy_from_slice(&cipher::key::expand(probe::key_of(key)));
-}
-
-pub fn encrypt(key: &[u8], block: &[u8], out: &mut [u8])
-    requires { (length key.now ≡ 16) × (length block.now ≡ 16) × (length out.old ≡ 16) }
+#[tactic(auto, unfolding(probe::specs::Told::repeated))]
+pub fn encrypt(key: &[u8; 16], block: &[u8; 16], out: &mut [u8; 16])
     ensures { out.new ≡ encrypt_of key.now block.now }
 {
-    out.copy_from_slice(block);
+    *out = *block;
     encrypt_chain(key, out, 1);
 }
 
-pub fn encrypt_chain(key: &[u8], block: &mut [u8], count: u64)
-    requires { (length key.now ≡ 16) × (length block.old ≡ 16) }
+pub fn encrypt_chain(key: &[u8; 16], block: &mut [u8; 16], count: u64)
     ensures { block.new ≡ repeated (encrypt_of key.now) block.old count }
 {
-    let aes = Aes128::new(probe::key_of(key));
+    let aes = Aes128::new(*key);
     let mut x = Block::at(block, 0);
     for _ in 0..count {
         x = aes.encrypt(x);
     }
-    x.put(block, 0);
+    *block = x.into();
 }

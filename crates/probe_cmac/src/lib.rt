@@ -9,17 +9,22 @@ ghost use Rattle.cmac.specs.Cmac.{cmac_of};
 ghost use Rattle.cmac.specs.Context.{subkeys_of};
 ghost use Rattle.probe.specs.Told.{Told, sized, repeated, retagged};
 
+use cmac::Context;
+
 // Both subkeys.
 #[unsafe(no_mangle)]
 pub extern "C" fn probe_subkeys(key: &[u8], out: &mut [u8]) -> u64
     ensures { Told (sized key.now 16 && sized out.old 32)
         (subkeys_of key.now) out.old out.new result }
 {
-    if key.len() != 16 || out.len() != 32 {
-        return 1;
+    if let Some(key) = key.as_array()
+        && let Some(out) = out.as_mut_array()
+    {
+        *out = Context::new(*key).subkeys;
+        0
+    } else {
+        1
     }
-    work::subkeys(key, out);
-    0
 }
 
 // The tag of a message.
@@ -28,11 +33,14 @@ pub extern "C" fn probe_tag(key: &[u8], message: &[u8], out: &mut [u8]) -> u64
     ensures { Told (sized key.now 16 && sized out.old 16)
         (cmac_of key.now message.now) out.old out.new result }
 {
-    if key.len() != 16 || out.len() != 16 {
-        return 1;
+    if let Some(key) = key.as_array()
+        && let Some(out) = out.as_mut_array()
+    {
+        work::tag(key, message, out);
+        0
+    } else {
+        1
     }
-    work::tag(key, message, out);
-    0
 }
 
 // Count times, the tag of a message in the place of its first 16 bytes.
@@ -41,9 +49,12 @@ pub extern "C" fn probe_tag_chain(key: &[u8], message: &mut [u8], count: u64) ->
     ensures { Told (sized key.now 16 && leb 16 (length message.old))
         (repeated (retagged key.now) message.old count) message.old message.new result }
 {
-    if key.len() != 16 || message.len() < 16 {
-        return 1;
+    if let Some(key) = key.as_array()
+        && message.len() >= 16
+    {
+        work::tag_chain(key, message, count);
+        0
+    } else {
+        1
     }
-    work::tag_chain(key, message, count);
-    0
 }

@@ -3,14 +3,12 @@
 // messages that have not 656.
 #![tactic(auto)]
 
-ghost use Rattle.std.specs.Prelude.{◌≡◌, [], length};
+ghost use Rattle.std.specs.Prelude.{◌≡◌, []};
 ghost use Rattle.tree.specs.Calls.{read, write, check, wipe};
 ghost use Rattle.probe_count.specs.Counted.{anchor_of, Counted, CountedPlan};
 
+use plan::MESSAGE_BYTES;
 use tree::{Anchor, BlockIndex, Nonce};
-
-// How many bytes a plan's messages take at every depth.
-const MESSAGE_ROOM: usize = 656;
 
 // A read's.
 #[unsafe(no_mangle)]
@@ -25,9 +23,9 @@ pub extern "C" fn probe_count_read(
     ensures { Counted key.now depth root card.now (read index buffer.old)
         result card.now buffer.new }
 {
-    if key.len() != 16 {
+    let Some(key) = key.as_array() else {
         return 0;
-    }
+    };
     calls::read(anchor(key, depth, root), card, BlockIndex(index), buffer).count
 }
 
@@ -45,9 +43,9 @@ pub extern "C" fn probe_count_write(
     ensures { Counted key.now depth root card.old (write index block.now ranges.old)
         result card.new ranges.new }
 {
-    if key.len() != 16 {
+    let Some(key) = key.as_array() else {
         return 0;
-    }
+    };
     calls::write(
         anchor(key, depth, root),
         card,
@@ -63,9 +61,9 @@ pub extern "C" fn probe_count_write(
 pub extern "C" fn probe_count_check(key: &[u8], depth: u64, root: u64, card: &[u8]) -> u64
     ensures { Counted key.now depth root card.now check result card.now [] }
 {
-    if key.len() != 16 {
+    let Some(key) = key.as_array() else {
         return 0;
-    }
+    };
     calls::check(anchor(key, depth, root), card).count
 }
 
@@ -74,9 +72,9 @@ pub extern "C" fn probe_count_check(key: &[u8], depth: u64, root: u64, card: &[u
 pub extern "C" fn probe_count_wipe(key: &[u8], depth: u64, root: u64, card: &mut [u8]) -> u64
     ensures { Counted key.now depth root card.old wipe result card.new [] }
 {
-    if key.len() != 16 {
+    let Some(key) = key.as_array() else {
         return 0;
-    }
+    };
     calls::wipe(anchor(key, depth, root), card).count
 }
 
@@ -95,30 +93,22 @@ pub extern "C" fn probe_count_plan(
     ensures { CountedPlan key.now depth root card.old index block.now ranges.old
         messages.old result card.new ranges.new messages.new }
 {
-    if key.len() != 16 {
-        return 0;
+    if let Some(key) = key.as_array()
+        && let Some(messages) = messages.as_mut_array::<MESSAGE_BYTES>()
+    {
+        let anchor = anchor(key, depth, root);
+        split::plan(anchor, card, BlockIndex(index), block, ranges, messages).count
+    } else {
+        0
     }
-    let Some(messages) = messages.as_mut_array::<MESSAGE_ROOM>() else {
-        return 0;
-    };
-    split::plan(
-        anchor(key, depth, root),
-        card,
-        BlockIndex(index),
-        block,
-        ranges,
-        messages,
-    )
-    .count
 }
 
 // The anchor of its parts.
-fn anchor(key: &[u8], depth: u64, root: u64) -> Anchor
-    requires { length key.now ≡ 16 }
+fn anchor(key: &[u8; 16], depth: u64, root: u64) -> Anchor
     ensures { result ≡ anchor_of key.now depth root }
 {
     Anchor {
-        key: probe::key_of(key),
+        key: *key,
         depth,
         root: Nonce(root),
     }

@@ -38,7 +38,7 @@ use Rattle.replay.proofs.Anchors.{next-key}
 use Rattle.replay.proofs.Theorem.{demand3, unforged, afresh}
 
 -- What a contract says of a call that returned: x is what it was given, r what it answered, e what it left. Where it answered an error,
--- the anchor and a put's plan are those that it was given, and a plan is the one that waits for nothing.
+-- the anchor and a put's plan are those that it was given, format's anchor has its key and depth, and a plan is one that waits for nothing.
 
 pub format-ran : (κs : _) (x : _) (r : _) (e : _) → format-code.Learnt κs x r e
     → Formatted x.0 x.1.0 x.1.1.0.now (limited_in r)

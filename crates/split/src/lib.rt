@@ -4,15 +4,18 @@
 
 mod within;
 
+ghost use Rattle.std.specs.Prelude.{◌≡◌, [], ◌∷◌, ◌++◌};
 ghost use Rattle.std.specs.Result.{result_unwrap_or};
 ghost use Rattle.cmac.specs.Cmac.{cmac_of};
 ghost use Rattle.cmac.specs.Traced.{subkeys_count, cmac_count};
 ghost use Rattle.tree.specs.Answer.{answer_in, limited_in};
-ghost use Rattle.plan.specs.Split.{planned, no_plan, Plans, put, Puts};
+ghost use Rattle.tree.specs.Tests.{tested};
+ghost use Rattle.tree.specs.Calls.{first_limits};
+ghost use Rattle.plan.specs.Split.{planned, no_plan, Plans, place_limit, put, Puts};
 
 use cmac::counted::Counted;
-use plan::Plan;
-use tree::{Anchor, BlockIndex, Depth, Entry, Error, Node, Refusal, limits};
+use plan::{MESSAGE_BYTES, Plan};
+use tree::{Anchor, BlockIndex, Error, Node, Refusal, limits};
 
 // What an accepted put gives back.
 #[derive(Clone, Copy)]
@@ -29,7 +32,7 @@ pub fn plan(
     index: BlockIndex,
     block: &[u8],
     ranges: &mut [u8],
-    messages: &mut [u8; 656],
+    messages: &mut [u8; MESSAGE_BYTES],
 ) -> Counted<Result<Plan, Error>>
     ensures { Plans (subkeys_count anchor.key) (cmac_count anchor.key)
         (planned (cmac_of anchor.key) anchor card.old index.0 block.now ranges.old)
@@ -37,10 +40,7 @@ pub fn plan(
 {
     match limits::write(anchor, card.len(), index, block.len(), ranges.len()) {
         Ok(()) => within::plan(anchor, card, index, block, ranges, messages),
-        Err(refusal) => Counted {
-            value: Err(Error::from(refusal)),
-            count: 0,
-        },
+        Err(refusal) => calls::refused(refusal),
     }
 }
 
@@ -56,24 +56,15 @@ pub fn put_tag(
         (result_unwrap_or result (record { anchor = anchor; plan = plan })).anchor
         (result_unwrap_or result (record { anchor = anchor; plan = plan })).plan card.new }
 {
-    limits::first(anchor, card.len())?;
-    let depth = Depth {
-        levels: anchor.depth,
-    };
-    plan.awaits(depth, node)?;
-    let entry = Entry { depth, node };
-    words::put(card, entry.offset() + entry.size(), &tag);
-    let filled = plan.fill(depth, node);
-    let anchor = if filled.is_full(depth) {
-        Anchor {
-            root: filled.root,
-            ..anchor
-        }
-    } else {
-        anchor
-    };
-    Ok(Placed {
-        anchor,
-        plan: filled,
-    })
+    put_limits(anchor, plan, card.len(), node)?;
+    Ok(within::put_tag(anchor, plan, card, node, tag))
+}
+
+// What a put tests.
+#[tactic(auto, unfolding(tree::specs::Limits::first_failing))]
+fn put_limits(anchor: Anchor, plan: Plan, len: usize, node: Node) -> Result<(), Refusal>
+    ensures { result ≡ tested (first_limits anchor len ++ (place_limit anchor.depth plan node.0 ∷ [])) }
+{
+    limits::first(anchor, len)?;
+    plan.awaits(anchor.card_depth(), node)
 }

@@ -1,50 +1,47 @@
 // A split write: its plan and its puts.
-ghost use Rattle.std.specs.Prelude.{◌≡◌, ◌*◌, ◌≤◌, length};
+ghost use Rattle.std.specs.Prelude.{◌≡◌, ◌*◌, ◌≤◌};
 
 use cmac::Context;
-use plan::Plan;
+use plan::{MESSAGE_BYTES, Plan};
 use split::Placed;
-use steps::{Left, Turn, left, sum};
+use steps::{Left, Target, Turn, left, sum};
 use tree::{BlockIndex, Error, Node, Nonce, Path};
 
-// What stands for the plan of a write that is refused.
+// What the puts behind a refused plan are tried with: no card has its block.
 const NO_PLAN: Plan = Plan {
     index: BlockIndex(65536),
     root: Nonce(0),
     filled: 0,
 };
 
-// A split write: the path to its block, its plan as last returned, the tags of its messages, and what the plan left.
+// A split write: its block, its plan as last returned, the tags of its messages, and what the plan left.
 #[derive(Clone, Copy)]
 pub struct Going {
-    path: Path,
+    target: Target,
     plan: Plan,
     tags: [[u8; 16]; 13],
     left: Left,
-    ghost deep: { 1 ≤ path.depth.levels },
-    ghost shallow: { path.depth.levels ≤ 6 },
 }
 
 impl Going {
     // Plans a write of a block whose bytes are drawn, with so many bytes of the range buffer lent.
-    pub fn begin(turn: &mut Turn, path: Path, card: &mut [u8], lent: usize) -> Going
-        requires levels { (1 ≤ path.depth.levels) × (path.depth.levels ≤ 6) }
-        requires lent { lent ≤ 101 }
+    pub fn begin(turn: &mut Turn, target: Target, card: &mut [u8], lent: usize) -> Going
+        requires { lent ≤ 101 }
     {
         let mut block = [0u8; 64];
         turn.draw.fill(&mut block);
         let mut ranges = [left::RANGES; 101];
-        let mut messages = [left::BUFFER; 656];
+        let mut messages = [left::BUFFER; MESSAGE_BYTES];
         let planned = split::plan(
             turn.anchor,
             card,
-            path.index,
+            target.index,
             &block,
             &mut ranges[..lent],
             &mut messages,
         );
         let mut going = Going {
-            path,
+            target,
             plan: planned.value.unwrap_or(NO_PLAN),
             tags: [[0; 16]; 13],
             left: Left {
@@ -57,11 +54,9 @@ impl Going {
     }
 
     // The engines: the tags of all messages of a plan, and zeros behind them. The messages of the leaves come last, and are longer.
-    fn make_tags(&mut self, key: [u8; 16], messages: &[u8])
-        requires { length messages.now ≡ 656 }
-    {
+    fn make_tags(&mut self, key: [u8; 16], messages: &[u8; MESSAGE_BYTES]) {
         let context = Context::new(key);
-        let inner = (34 * self.path.depth.levels - 34) as usize;
+        let inner = (34 * self.target.levels.depth.levels - 34) as usize;
         let each = messages[..inner]
             .chunks_exact(17)
             .chain(messages[inner..inner + 146].chunks_exact(73));
@@ -73,7 +68,7 @@ impl Going {
     // As many puts as there are places, of places that are drawn, and then each place in rising order: in the end all are filled, and some
     // were tried twice. The buffer's sum is that of the numbers that they answer.
     pub fn finish(mut self, turn: &mut Turn, card: &mut [u8]) -> Left {
-        let places = (2 * self.path.depth.levels) as usize;
+        let places = (2 * self.target.levels.depth.levels) as usize;
         let mut answers = [left::BUFFER; 64];
         for (k, answer) in answers[..2 * places].iter_mut().enumerate() {
             let place = if k < places {
@@ -91,8 +86,8 @@ impl Going {
 
     // Puts the tag of a place, and answers the put's number.
     fn put(&mut self, turn: &mut Turn, card: &mut [u8], place: usize) -> u64
-        requires { place ≤ 2 * self.old.path.depth.levels }
-        ensures { self.new.path ≡ self.old.path }
+        requires { place ≤ 2 * self.old.target.levels.depth.levels }
+        ensures { self.new.target ≡ self.old.target }
     {
         let placed = split::put_tag(
             turn.anchor,
@@ -110,13 +105,18 @@ impl Going {
 
     // The node at a place; behind the last one the root, which no plan waits for.
     fn node(&self, place: usize) -> Node
-        requires { place ≤ 2 * self.now.path.depth.levels }
+        requires { place ≤ 2 * self.now.target.levels.depth.levels }
     {
         let place = place as u64;
-        if place == 2 * self.path.depth.levels {
+        let depth = self.target.levels.depth;
+        if place == 2 * depth.levels {
             return Node(1);
         }
-        let own = self.path.node(place / 2 + 1);
-        Node(own.0 / 2 * 2 + place % 2)
+        let path = Path {
+            depth,
+            index: self.target.index,
+        };
+        let (lower, upper) = path.node(place / 2 + 1).pair();
+        if place % 2 == 0 { lower } else { upper }
     }
 }

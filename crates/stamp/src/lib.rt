@@ -13,7 +13,7 @@ ghost use Rattle.tree.specs.Labels.{form, message, nonce_or_block, blank_labels,
 ghost use Rattle.tree.specs.Card.{laid, blanked, written};
 ghost use Rattle.tree.specs.Calls.{total};
 
-use card::tag;
+use card::Message;
 use cmac::Context;
 use tree::{Depth, Entry, Node, Nonce, Path, numbers};
 use words::Packed;
@@ -42,15 +42,14 @@ fn put_tag(context: &Context, entry: Entry, card: &mut [u8], parent: u64) -> u64
     ensures value { result
         ≡ count_by context.now (form (label entry.depth.levels card.old entry.node.0) (bytes 8 parent) (entry.node.0 % 2)) }
 {
-    let start = entry.offset();
-    let middle = start + entry.size();
-    let made = tag::of(
-        context,
-        &card[start..middle],
+    let place = entry.tag_offset();
+    let message = Message {
+        label: &card[entry.offset()..place],
         parent,
-        (entry.node.0 % 2) as u8,
-    );
-    made.value.put(card, middle);
+        side: entry.node.side(),
+    };
+    let made = message.tag(context);
+    made.value.put(card, place);
     made.count
 }
 
@@ -97,50 +96,66 @@ pub fn blank(context: &Context, depth: Depth, nonce: Nonce, card: &mut [u8]) -> 
     count
 }
 
-// A block anew, with the nonces after the last one used: each node of its path gets its label and its tag, each sibling its tag.
-pub fn block(context: &Context, path: Path, last: Nonce, card: &mut [u8], block: &[u8]) -> u64
-    requires card { IsCard path.depth.levels card.old }
-    requires block_len { length block.now ≡ 64 }
-    requires depth_bound { last.0 + path.depth.levels < 2 ^ 64 }
-    ensures card_after { (t : ℕ) → card.new
-        ≡ written (tag_by context.now) path.depth.levels t last.0 card.old path.index.0 block.now }
-    ensures value { (t : ℕ) → result ≡ total (count_by context.now)
-        (map (message (written_labels path.depth.levels t last.0 card.old path.index.0 block.now))
-        (pairs path.depth.levels path.index.0)) }
-{
-    let depth = path.depth;
-    let new = last.0 + depth.levels;
-    let mut count = 0u64;
-    for level in 0..depth.levels {
-        let parent = numbers::be(new - level);
-        let own = path.node(level + 1);
-        let entry = Entry { depth, node: own };
-        let nonce = Nonce(new - level - 1);
-        count += put_entry(context, entry, card, nonce, block, parent);
-        let other = Entry {
-            depth,
-            node: own.sibling(),
-        };
-        count += put_tag(context, other, card, parent);
-    }
-    count
+// A block that a write puts on a card: the path to it, the last nonce used before, of which enough are left, and its bytes.
+#[derive(Clone, Copy)]
+pub struct NewBlock<'a> {
+    pub path: Path,
+    pub last: Nonce,
+    pub bytes: &'a [u8],
+    pub ghost sized: { length bytes.now ≡ 64 },
+    pub ghost nonces_left: { last.0 + path.depth.levels < 2 ^ 64 },
 }
 
-// The labels of that write without its tags: each node of the block's path gets its label, and no tag changes.
-pub fn labels(path: Path, last: Nonce, card: &mut [u8], block: &[u8])
-    requires card { IsCard path.depth.levels card.old }
-    requires block_len { length block.now ≡ 64 }
-    requires depth_bound { last.0 + path.depth.levels < 2 ^ 64 }
-    ensures { (t : ℕ) → card.new
-        ≡ laid path.depth.levels (written_labels path.depth.levels t last.0 card.old path.index.0 block.now)
-        (path_nodes path.depth.levels path.index.0) card.old }
-{
-    let root = last.0 + path.depth.levels;
-    for level in 0..path.depth.levels {
-        let entry = Entry {
-            depth: path.depth,
-            node: path.node(level + 1),
-        };
-        put_label(entry, card, Nonce(root - level - 1), block);
+impl<'a> NewBlock<'a> {
+    // The root nonce after the write.
+    pub fn root(&self) -> Nonce
+        ensures { result.0 ≡ self.now.last.0 + self.now.path.depth.levels }
+    {
+        Nonce(self.last.0 + self.path.depth.levels)
+    }
+
+    // Puts all of it: each node of its path gets its label and its tag, with the nonces after the last one used, each sibling its tag.
+    pub fn stamp(&self, context: &Context, card: &mut [u8]) -> u64
+        requires { IsCard self.now.path.depth.levels card.old }
+        ensures card_after { (t : ℕ) → card.new
+            ≡ written (tag_by context.now) self.now.path.depth.levels t self.now.last.0 card.old self.now.path.index.0 self.now.bytes.now }
+        ensures value { (t : ℕ) → result ≡ total (count_by context.now)
+            (map (message (written_labels self.now.path.depth.levels t self.now.last.0 card.old self.now.path.index.0 self.now.bytes.now))
+            (pairs self.now.path.depth.levels self.now.path.index.0)) }
+    {
+        let depth = self.path.depth;
+        let root = self.root().0;
+        let mut count = 0u64;
+        for level in 0..depth.levels {
+            let parent = numbers::be(root - level);
+            let own = self.path.node(level + 1);
+            let entry = Entry { depth, node: own };
+            let nonce = Nonce(root - level - 1);
+            count += put_entry(context, entry, card, nonce, self.bytes, parent);
+            let other = Entry {
+                depth,
+                node: own.sibling(),
+            };
+            count += put_tag(context, other, card, parent);
+        }
+        count
+    }
+
+    // Puts its labels without a tag: each node of its path gets its label.
+    pub fn lay(&self, card: &mut [u8])
+        requires { IsCard self.now.path.depth.levels card.old }
+        ensures { (t : ℕ) → card.new
+            ≡ laid self.now.path.depth.levels
+            (written_labels self.now.path.depth.levels t self.now.last.0 card.old self.now.path.index.0 self.now.bytes.now)
+            (path_nodes self.now.path.depth.levels self.now.path.index.0) card.old }
+    {
+        let root = self.root().0;
+        for level in 0..self.path.depth.levels {
+            let entry = Entry {
+                depth: self.path.depth,
+                node: self.path.node(level + 1),
+            };
+            put_label(entry, card, Nonce(root - level - 1), self.bytes);
+        }
     }
 }

@@ -1,5 +1,5 @@
 // The generator, xorshift on 64 bits.
-ghost use Rattle.std.specs.Prelude.{◌≡◌, ◌%◌, ◌≤◌, ◌<◌};
+ghost use Rattle.std.specs.Prelude.{◌≡◌, ◌%◌, ◌≤◌, ◌<◌, Some, length, slice_get};
 
 // Its state is the number drawn last.
 #[derive(Clone, Copy)]
@@ -25,6 +25,14 @@ impl Draw {
         ensures { (result ≡ self.new.last % count) × (result < count) }
     {
         self.next() % count
+    }
+
+    // The one of these that the next number picks.
+    pub fn pick_of<T: Copy>(&mut self, things: &[T]) -> T
+        requires { 1 ≤ length things.now }
+        ensures { slice_get things.now (self.new.last % length things.now) ≡ Some result }
+    {
+        things[self.pick(things.len() as u64) as usize]
     }
 
     // Fills a string with bytes drawn in order.

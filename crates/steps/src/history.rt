@@ -1,54 +1,59 @@
 // The card of a history.
-ghost use Rattle.std.specs.Prelude.{◌≡◌, ◌^◌, ◌≤◌, length};
+ghost use Rattle.std.specs.Prelude.{◌≡◌, [], replicate, take};
+ghost use Rattle.cmac.specs.Cmac.{cmac_of};
 ghost use Rattle.tree.specs.Layout.{card_length};
+ghost use Rattle.tree.specs.Answer.{answer_in};
+ghost use Rattle.tree.specs.Calls.{Gives, format};
 
-use crate::{Draw, Left, Turn};
+use crate::levels::LONGEST;
+use crate::{Draw, Left, Levels, Target, Turn};
 use cmac::counted::Counted;
-use tree::{Anchor, BlockIndex, Depth, Error, Nonce, Path};
+use tree::{Anchor, BlockIndex, Error, Nonce};
 
-// A history as it stands: the path to the block that a step names, what the step before it left, and the card with an older copy.
+// A history as it stands: what the step before it left, the block that a step names, and the card with an older copy, each at the beginning
+// of its bytes.
 #[derive(Drop)]
-pub struct History<const LEN: usize> {
-    pub path: Path,
+pub struct History {
     pub turn: Turn,
-    pub card: [u8; LEN],
-    pub copy: [u8; LEN],
-    pub ghost deep: { 1 ≤ path.depth.levels },
-    pub ghost shallow: { path.depth.levels ≤ 6 },
-    pub ghost full: { LEN ≡ card_length path.depth.levels },
+    pub target: Target,
+    pub card: [u8; LONGEST],
+    pub copy: [u8; LONGEST],
 }
 
-impl<const LEN: usize> History<LEN> {
-    // Formats a card under a key that is drawn, and keeps a copy. The levels are asked as numbers: a type of theirs would be turned into a
-    // `Depth` at each use.
-    pub fn format(levels: u64, mut draw: Draw) -> (History<LEN>, Left)
-        requires levels { (1 ≤ levels) × (levels ≤ 6) }
-        requires len { LEN ≡ card_length levels }
+impl History {
+    // Formats a card under a key that is drawn, and keeps a copy. A format has no count.
+    pub fn format(levels: Levels, mut draw: Draw) -> (History, Left)
+        ensures levels { result.0.target.levels ≡ levels }
+        ensures index { result.0.target.index.0 ≡ 0 }
+        ensures card { let key = result.0.turn.anchor.key in
+            let len = card_length levels.depth.levels in
+            Gives (format (cmac_of key) key levels.depth.levels (replicate len 0xa5))
+            (answer_in result.1.answer.value) result.0.turn.anchor (take len result.0.card) [] }
+        ensures copy { result.0.copy ≡ result.0.card }
     {
         let mut key = [0u8; 16];
         draw.fill(&mut key);
-        let depth = Depth { levels };
-        let mut card = [0xa5u8; LEN];
-        let made = calls::format(key, levels, &mut card);
-        let turn = Turn {
-            anchor: made.unwrap_or(Anchor {
-                key,
-                depth: levels,
-                root: Nonce(0),
-            }),
-            draw,
-        };
+        let depth = levels.depth.levels;
+        let mut card = [0xa5u8; LONGEST];
+        let made = calls::format(key, depth, &mut card[..levels.bytes()]);
+        let anchor = made.unwrap_or(Anchor {
+            key,
+            depth,
+            root: Nonce(0),
+        });
         let left = Left::from(Counted {
             value: made.map_err(Error::from),
             count: 0,
         });
+        let turn = Turn { anchor, draw };
+        let target = Target {
+            levels,
+            index: BlockIndex(0),
+        };
         (
             History {
-                path: Path {
-                    depth,
-                    index: BlockIndex(0),
-                },
                 turn,
+                target,
                 card,
                 copy: card,
             },
@@ -56,21 +61,14 @@ impl<const LEN: usize> History<LEN> {
         )
     }
 
-    // How many blocks the card has.
-    pub fn blocks(&self) -> u64
-        ensures { (result ≡ 2 ^ self.now.path.depth.levels) × (2 ≤ result) × (result ≤ 64) }
-    {
-        self.path.depth.leaves()
-    }
-
     // Draws the block that a step names.
     pub fn draw_block(&mut self)
-        ensures depth { self.new.path.depth ≡ self.old.path.depth }
+        ensures levels { self.new.target.levels ≡ self.old.target.levels }
         ensures card { self.new.card ≡ self.old.card }
         ensures copy { self.new.copy ≡ self.old.copy }
     {
-        let blocks = self.blocks();
-        self.path.index = BlockIndex(self.turn.draw.pick(blocks));
+        let blocks = self.target.levels.blocks();
+        self.target.index = BlockIndex(self.turn.draw.pick(blocks));
     }
 
     // Keeps a copy of the card.

@@ -1,4 +1,7 @@
 // What a step leaves.
+ghost use Rattle.std.specs.Prelude.{◌≡◌};
+ghost use Rattle.tree.specs.Answer.{answer_in};
+
 use crate::sum;
 use cmac::counted::Counted;
 use tree::Error;
@@ -18,6 +21,9 @@ pub struct Left {
 
 // What a call leaves that touches no buffer.
 impl<T: Copy> From<Counted<Result<T, Error>>> for Left {
+    ghost from_gives = { λ answer left.
+        (answer_in left.answer.value ≡ answer_in answer.value) × (left.answer.count ≡ answer.count) };
+
     fn from(answer: Counted<Result<T, Error>>) -> Left {
         Left {
             answer: Counted {

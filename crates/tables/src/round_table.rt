@@ -9,31 +9,31 @@ use words::Packed;
 
 // For each byte its entry: the column that mixing makes of its substitution in row 0, twice in a row.
 #[derive(Clone, Copy)]
-pub struct RoundTable {
-    pub entries: &'static [u8; 2048],
+pub struct RoundTable<'a> {
+    pub entries: &'a [u8; 2048],
     pub ghost of_each_byte: { IsRoundTable entries.now },
 }
 
-impl RoundTable {
-    pub fn new() -> RoundTable {
+impl<'a> RoundTable<'a> {
+    pub fn new() -> RoundTable<'static> {
         RoundTable { entries: &ENTRIES }
     }
 
-    // Four bytes of a byte's entry from its byte `start`. From 0, 3, 2 or 1 they are the column that the byte makes in row 0, 1, 2 or 3.
-    pub fn window(self, byte: usize, start: usize) -> u32
-        requires { (byte < 256) × (start ≤ 4) }
+    // Four bytes of a byte's entry from its byte `start`. From 0, 3, 2 or 1 they are the column that the byte makes in row 0, 1, 2 or 3. The
+    // local is there because a field that is a reference may not be lent as a slice inside a call.
+    pub fn window(self, byte: u8, start: usize) -> u32
+        requires { start ≤ 4 }
         ensures { bytes 4 result ≡ part (entry byte) start 4 }
     {
         let entries = self.entries;
-        u32::at(entries, 8 * byte + start)
+        u32::at(entries, 8 * byte as usize + start)
     }
 
     // The substitution of a byte: byte 1 of its entry.
-    pub fn substituted(self, byte: usize) -> u8
-        requires { byte < 256 }
+    pub fn substituted(self, byte: u8) -> u8
         ensures { result ≡ s_box byte }
     {
-        self.entries[8 * byte + 1]
+        self.entries[8 * byte as usize + 1]
     }
 }
 

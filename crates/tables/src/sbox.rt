@@ -5,23 +5,22 @@ ghost use Rattle.tables.specs.Tables.{IsSBox};
 
 // The substitution of each byte.
 #[derive(Clone, Copy)]
-pub struct SBox {
-    pub bytes: &'static [u8; 256],
+pub struct SBox<'a> {
+    pub bytes: &'a [u8; 256],
     pub ghost of_each_byte: { IsSBox bytes.now },
 }
 
-impl SBox {
-    pub fn new() -> SBox {
+impl<'a> SBox<'a> {
+    pub fn new() -> SBox<'static> {
         SBox {
             bytes: &SUBSTITUTES,
         }
     }
 
-    pub fn substituted(self, byte: usize) -> u8
-        requires { byte < 256 }
+    pub fn substituted(self, byte: u8) -> u8
         ensures { result ≡ s_box byte }
     {
-        self.bytes[byte]
+        self.bytes[byte as usize]
     }
 }
 

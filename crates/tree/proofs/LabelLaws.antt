@@ -4,16 +4,15 @@ use mathlib.Core.Bool.{cond}
 use mathlib.Core.List.{List, [], ◌∷◌, ◌++◌}
 use mathlib.Core.Logic.{◌⊎◌, inl, inr, ⊎_elim}
 use Prim.Native.Nat.{ℕ, zero, suc, ◌+◌, ◌-◌, ◌/◌, ◌%◌, ◌^◌, ◌<◌, ◌≤◌}
-use native.Mathlib.Nat.{eq-or-lt_of_le, pow-suc, zero-add}
+use native.Mathlib.Nat.{eq-or-lt_of_le, pow-suc}
 use native.Mathlib.Omega.{arith}
 use borrow.Author.Tests.{eq-eqb, ne_eqb, lt-ltb, le-ltb}
 use lib.Dec.{eqb}
-use lib.ListN.{length, set, length-append, replicate}
+use lib.ListN.{length, length-append, replicate}
 use lib.Pow.{pow_mono}
 use lib.Seq.{sets}
 use Rattle.words.specs.Bytes.{part}
 use Rattle.words.specs.Words.{bytes}
-use Rattle.words.proofs.Stores.{sets-append}
 use Rattle.words.proofs.Cases.{below_or_not, equal_or_not}
 use Rattle.tree.specs.Numbers.{be8}
 use Rattle.tree.specs.Layout.{IsNode, size, offset, card_length, label}
@@ -39,17 +38,14 @@ form-parts x p s y q t h e =
     let b = append_inj p (s ∷ []) q (t ∷ []) h a.1 in
     record { label_same = a.0; parent-same = b.0; side_same = cc b.1 }
 
--- how the code puts a message together, at the front of a longer string
-pub form-put : (m x : List ℕ) (p s : ℕ) → length x + 9 ≤ length m
-    → part (set (sets (sets m 0 x) (length x) (bytes 8 p)) (length x + 8) s) 0 (length x + 9) ≡ form x (bytes 8 p) s
+-- a message put at the front of a buffer is there
+pub form-front : (m x : List ℕ) (p s : ℕ) → length x + 9 ≤ length m
+    → part (sets m 0 (form x (bytes 8 p) s)) 0 (length x + 9) ≡ form x (bytes 8 p) s
 unfolding form
-form-put m x p s h =
+form-front m x p s h =
     let v = x ++ (bytes 8 p ++ (s ∷ [])) in
     let n : length v ≡ length x + 9 = length-append x (bytes 8 p ++ (s ∷ [])) in
-    let e : sets m 0 v ≡ set (sets (sets m 0 x) (length x) (bytes 8 p)) (length x + 8) s =
-    sets-append m 0 x (bytes 8 p ++ (s ∷ [])) ∙ ap (λ (k : ℕ). sets (sets m 0 x) k (bytes 8 p ++ (s ∷ []))) (zero-add (length x))
-    ∙ sets-append (sets m 0 x) (length x) (bytes 8 p) (s ∷ []) in
-    ap₂ (λ (l : List ℕ) (k : ℕ). part l 0 k) (sym e) (sym n) ∙ part-sets-second [] v m 0 (omega arith)
+    ap (part (sets m 0 v) 0) (sym n) ∙ part-sets-second [] v m 0 (omega arith)
 
 pub message-same : (L M : Labels) (u : ℕ) → L u ≡ M u → L (u / 2) ≡ M (u / 2) → message L u ≡ message M u
 message-same L M u p q = ap₂ (λ (x y : List ℕ). form x y (u % 2)) p q

@@ -69,11 +69,6 @@ pub ruleset small_entries = (entry-small)
 pub entry-on : (n : ℕ) (card : List ℕ) (u : ℕ) → IsCard n card → IsNode n u → offset n u + (size n u + 16) ≤ length card
 entry-on n card u d h = omega (arith, entry-fits n u h, d.full)
 
--- and by where it begins and what its label has
-pub entry-ends : (n : ℕ) (card : List ℕ) (u o s : ℕ) → length card ≡ card_length n → IsNode n u → o ≡ offset n u → s ≡ size n u
-    → o + s + 16 ≤ length card
-entry-ends n card u o s f h eo es = omega (arith, entry-fits n u h)
-
 pub size_low : (n u : ℕ) → size n u ≤ 64
 size_low n u =
     ⊎_elim (λ (l : u < 2 ^ n). omega (arith, inner n u l)) (λ (g : 2 ^ n ≤ u). omega (arith, leaf n u g)) (below_or_not u (2 ^ n))

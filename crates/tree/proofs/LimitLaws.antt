@@ -11,7 +11,7 @@ use lib.Dec.{eqb, ltb}
 use lib.ListN.{length}
 use Rattle.words.proofs.Cases.{below_or_not}
 use Rattle.tree.specs.Layout.{IsCard, card_length}
-use Rattle.tree.specs.Limits.{Limit, depth_limit, card_limit, first_failing}
+use Rattle.tree.specs.Limits.{Limit, depth_limit, first_failing}
 use Rattle.tree.specs.Tests.{test_result, tested}
 use Rattle.tree.specs.Answer.{limited_in}
 use Rattle.std.specs.Prelude.{Result, Ok, Err}
@@ -131,13 +131,6 @@ this_fails ls e = go (first_failing ls) e
     go none e = cc
     go (some s) e = cc
 
--- one row after another
-pub tested-then : (ls ms : List Limit) {x : Unit} → tested ls ≡ Ok x → tested (ls ++ ms) ≡ tested ms
-tested-then ls ms e = ap test_result (skip_first ls ms (none-failing ls e))
-
-pub tested-stop : (ls ms : List Limit) {r : Refusal} → tested ls ≡ Err r → tested (ls ++ ms) ≡ Err r
-tested-stop ls ms e = ap test_result (stop-first ls ms _ (this_fails ls e))
-
 -- what a row says of the answer
 pub limited-tested : (ls : List Limit) → limited_in (tested ls) ≡ verdict (first_failing ls) none
 limited-tested ls = go (first_failing ls)
@@ -145,13 +138,6 @@ limited-tested ls = go (first_failing ls)
     go : (o : Option Refusal) → limited_in (test_result o) ≡ verdict o none
     go none = refl
     go (some r) = refl
-
--- by their tests
-pub deep-enough : (n : ℕ) {x : Unit} → tested (depth_limit n ∷ []) ≡ Ok x → (1 ≤ n) × (n ≤ 16)
-deep-enough n e = depth-in n (passes (depth_limit n) [] (none-failing (depth_limit n ∷ []) e)).0
-
-pub long-enough : (n len : ℕ) {x : Unit} → tested (card_limit n len ∷ []) ≡ Ok x → len ≡ card_length n
-long-enough n len e = is-equal len (card_length n) (passes (card_limit n len) [] (none-failing (card_limit n len ∷ []) e)).0
 
 -- What holds where a call's limits are all passed
 

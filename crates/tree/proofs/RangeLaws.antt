@@ -11,6 +11,7 @@ use borrow.Author.Tests.{eq-eqb, ne_eqb}
 use lib.ListN.{length, drop, length-append}
 use lib.Seq.{get_or-take, get_or-drop, sets}
 use lib.Pow.{pow_mono, pow_pos}
+use Rattle.std.proofs.lemmas.Slice.{drop-append-drop}
 use Rattle.words.specs.Bytes.{at}
 use Rattle.words.proofs.Stores.{sets-append}
 use Rattle.words.proofs.Cases.{below_or_not, equal_or_not}
@@ -18,7 +19,7 @@ use Rattle.tree.specs.Layout.{size, offset, card_length, label}
 use Rattle.tree.specs.Nodes.{path_node, pairs}
 use Rattle.tree.specs.Labels.{Labels, labels, new_labels}
 use Rattle.tree.specs.Card.{written}
-use Rattle.tree.specs.Ranges.{Range, range_of, range_pair, ranges_to, ranges_of, encode}
+use Rattle.tree.specs.Ranges.{Range, range_of, range_pair, ranges_to, ranges_of, encode, listed}
 use Rattle.tree.proofs.ByteLaws.{append_inj, length-be}
 use Rattle.tree.proofs.LayoutLaws.{inner, leaf, entry-before, offset-mono, card-end, few-leaves}
 use Rattle.tree.proofs.NodeLaws.{path-leaf, path-level, path_parent, Child, pairs-child, child-node, child-off, pair-node}
@@ -122,6 +123,10 @@ module _ (n i : ℕ) where
 
   pub ranges-length : (k : ℕ) → length (encode (ranges_to n i k)) ≡ 16 * k
   ranges-length k = omega (arith, length-encode (ranges_to n i k), ranges-count k)
+
+  -- the bytes of the buffer behind the ranges stay
+  pub listed-keeps : (buffer : List ℕ) → drop (16 * n) (listed n i buffer) ≡ drop (16 * n) buffer
+  listed-keeps buffer = drop-append-drop (16 * n) buffer (encode (ranges_of n i)) (16 * n) (omega arith) (ranges-length n)
 
   -- a level more, stored behind those before it; u is its node of the path
   pub ranges_more : (s t : List ℕ) (y u : ℕ) → t ≡ sets s 0 (encode (ranges_to n i y)) → u ≡ path_node n i (y + 1)

@@ -55,4 +55,12 @@ impl Entry {
         }
         (24 * (first - 2) + 80 * (self.node.0 - first)) as usize
     }
+
+    // Where its tag begins, behind the label.
+    #[tactic(auto, unfolding(crate::specs::Layout::offset, crate::specs::Layout::size))]
+    pub fn tag_offset(self) -> usize
+        ensures { result ≡ offset self.depth.levels self.node.0 + size self.depth.levels self.node.0 }
+    {
+        self.offset() + self.size()
+    }
 }

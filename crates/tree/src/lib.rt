@@ -8,7 +8,7 @@ pub mod numbers;
 pub mod path;
 pub mod ranges;
 
-ghost use Rattle.std.specs.Prelude.{◌≡◌};
+ghost use Rattle.std.specs.Prelude.{◌≡◌, ◌≤◌};
 ghost use Rattle.tree.specs.Answer.{number_of, node_of, refused_as, answer_in};
 ghost use Rattle.tree.specs.declared.Error.TheVariants.{Limit};
 
@@ -35,6 +35,16 @@ pub struct Anchor {
     pub key: [u8; 16],
     pub depth: u64,
     pub root: Nonce,
+}
+
+impl Anchor {
+    // The depth of its card, where limit 1 has passed it.
+    pub fn card_depth(self) -> Depth
+        requires { self.depth ≤ 16 }
+        ensures { result.levels ≡ self.depth }
+    {
+        Depth { levels: self.depth }
+    }
 }
 
 // Why a call is refused, but for a wrong tag, in the order of the papers' numbers: 1 to 7, and 9.
@@ -65,6 +75,7 @@ impl From<Refusal> for Error {
     }
 }
 
+// C and a log have numbers.
 impl Error {
     // The papers' number.
     pub fn number(self) -> u64
@@ -87,7 +98,7 @@ impl Error {
     }
 }
 
-// The number of what a call answers: 0 where it is accepted. Numbers are what C and a log have; a `Result` takes no From of its own.
+// The number of what a call answers: 0 where it is accepted. A `Result`, which is std's, takes no method or `From` of this crate.
 pub fn number(answer: Result<(), Error>) -> u64
     ensures { result ≡ number_of (answer_in answer) }
 {
@@ -97,7 +108,7 @@ pub fn number(answer: Result<(), Error>) -> u64
     }
 }
 
-// The node of what a call answers, 0 where it names none.
+// The node of what a call answers, 0 where it names none, in the same way.
 pub fn node_of(answer: Result<(), Error>) -> u64
     ensures { result ≡ node_of (answer_in answer) }
 {

@@ -43,12 +43,7 @@ pub fn first(anchor: Anchor, len: usize) -> Result<(), Refusal>
 {
     depth(anchor.depth)?;
     root_nonce(anchor.depth, anchor.root)?;
-    card_length(
-        Depth {
-            levels: anchor.depth,
-        },
-        len,
-    )
+    card_length(anchor.card_depth(), len)
 }
 
 // 4: there is such a block.
@@ -91,9 +86,7 @@ pub fn write(
     ensures { result ≡ tested (first_limits anchor len ++ write_limits anchor index.0 block ranges) }
 {
     first(anchor, len)?;
-    let depth = Depth {
-        levels: anchor.depth,
-    };
+    let depth = anchor.card_depth();
     block_number(depth, index)?;
     block_length(block)?;
     range_length(depth, ranges)?;

@@ -1,5 +1,5 @@
 // The nodes of a path.
-ghost use Rattle.std.specs.Prelude.{◌≡◌, ◌^◌, ◌≤◌, ◌<◌};
+ghost use Rattle.std.specs.Prelude.{◌≡◌, ◌+◌, ◌*◌, ◌/◌, ◌%◌, ◌^◌, ◌≤◌, ◌<◌};
 ghost use Rattle.tree.specs.Nodes.{path_node, sibling};
 
 use crate::{BlockIndex, Depth, Node};
@@ -25,6 +25,29 @@ impl Path {
 }
 
 impl Node {
+    // Its parent.
+    pub fn parent(self) -> Node
+        ensures { result.0 ≡ self.0 / 2 }
+    {
+        Node(self.0 / 2)
+    }
+
+    // On which side of its parent it is.
+    pub fn side(self) -> u8
+        ensures { result ≡ self.0 % 2 }
+    {
+        (self.0 % 2) as u8
+    }
+
+    // It and the other child of its parent, the lower one first.
+    pub fn pair(self) -> (Node, Node)
+        ensures lower { result.0.0 ≡ 2 * (self.0 / 2) }
+        ensures upper { result.1.0 ≡ 2 * (self.0 / 2) + 1 }
+    {
+        let lower = 2 * (self.0 / 2);
+        (Node(lower), Node(lower + 1))
+    }
+
     // The other child of its parent.
     #[tactic(auto, unfolding(crate::specs::Nodes::sibling))]
     pub fn sibling(self) -> Node

@@ -23,12 +23,15 @@ fn put_entry(own: Node, entry: Entry, buffer: &mut [u8], place: usize)
     requires { place + 8 ≤ length buffer.old }
     ensures { buffer.new ≡ sets buffer.old place (encode (range_of entry.depth.levels own.0 entry.node.0 ∷ [])) }
 {
-    let start = entry.offset();
-    let count = entry.size();
     if entry.node == own {
-        put_range(buffer, place, start as u32, (count + 16) as u32);
+        put_range(
+            buffer,
+            place,
+            entry.offset() as u32,
+            (entry.size() + 16) as u32,
+        );
     } else {
-        put_range(buffer, place, (start + count) as u32, 16);
+        put_range(buffer, place, entry.tag_offset() as u32, 16);
     }
 }
 
@@ -41,24 +44,8 @@ pub fn fill(path: Path, buffer: &mut [u8])
     for level in 0..depth.levels {
         let place = (16 * level) as usize;
         let own = path.node(level + 1);
-        let lower = 2 * (own.0 / 2);
-        put_entry(
-            own,
-            Entry {
-                depth,
-                node: Node(lower),
-            },
-            buffer,
-            place,
-        );
-        put_entry(
-            own,
-            Entry {
-                depth,
-                node: Node(lower + 1),
-            },
-            buffer,
-            place + 8,
-        );
+        let (lower, upper) = own.pair();
+        put_entry(own, Entry { depth, node: lower }, buffer, place);
+        put_entry(own, Entry { depth, node: upper }, buffer, place + 8);
     }
 }

@@ -154,12 +154,12 @@ impl Word for u64 {
     }
 }
 
-// A byte of a word, as an index.
-pub fn byte(word: u32, index: usize) -> usize
+// A byte of a word.
+pub fn byte(word: u32, index: usize) -> u8
     requires { index < 4 }
     ensures { result ≡ at (bytes 4 word) index }
 {
-    (word >> (8 * index) & 0xff) as usize
+    (word >> (8 * index) & 0xff) as u8
 }
 
 // Two words in one.
@@ -179,6 +179,22 @@ impl BitXor for Block {
         Block {
             head: self.head ^ right.head,
             tail: self.tail ^ right.tail,
+        }
+    }
+}
+
+// The same of two states, column by column.
+impl BitXor for Columns {
+    type Output = Columns;
+
+    ghost bitxor_gives = { λ left right result. state_of result ≡ xor_block (state_of left) (state_of right) };
+
+    fn bitxor(self, right: Columns) -> Columns {
+        Columns {
+            c0: self.c0 ^ right.c0,
+            c1: self.c1 ^ right.c1,
+            c2: self.c2 ^ right.c2,
+            c3: self.c3 ^ right.c3,
         }
     }
 }

@@ -1,5 +1,6 @@
 // What each call does once its limits are passed. The context is made once; every check comes before the first byte that changes. The count
-// is that of the context and of every tag made.
+// is that of the context and of every tag made. Each asks that its own limits are passed by all that it is given: a type for this fact would
+// hold for one call, and be made in one place and opened in one.
 #![tactic(auto)]
 
 ghost use Rattle.std.specs.Prelude.{◌≡◌, [], map, ◌+◌, ◌^◌, ◌<◌};
@@ -18,7 +19,8 @@ ghost use Rattle.tree.specs.Calls.{Reports, read, write, check, wipe, limits, to
 use card::{BlockView, CardView, walk};
 use cmac::Context;
 use cmac::counted::Counted;
-use tree::{Anchor, BlockIndex, Depth, Error, Nonce, ranges};
+use stamp::NewBlock;
+use tree::{Anchor, BlockIndex, Error, Nonce, ranges};
 
 // Makes an empty card for the anchor that a format or a wipe gives. `IsCard` is asked as in stamp, which writes the card.
 pub fn blank(anchor: Anchor, card: &mut [u8]) -> u64
@@ -27,32 +29,8 @@ pub fn blank(anchor: Anchor, card: &mut [u8]) -> u64
     ensures value { result ≡ subkeys_count anchor.key
         + total (cmac_count anchor.key) (map (message (blank_labels anchor.depth anchor.root.0)) (all_nodes anchor.depth)) }
 {
-    let depth = Depth {
-        levels: anchor.depth,
-    };
     let context = Context::new(anchor.key);
-    context.count + stamp::blank(&context, depth, anchor.root, card)
-}
-
-// A block of the anchor's card. Its facts are asked here and stand in the view's type from here on.
-fn block_of<'a>(anchor: Anchor, card: &'a [u8], index: BlockIndex) -> BlockView<'a>
-    requires card { IsCard anchor.depth card.now }
-    requires index_bound { index.0 < 2 ^ anchor.depth }
-    ensures depth { result.card.depth.levels ≡ anchor.depth }
-    ensures root { result.card.root ≡ anchor.root }
-    ensures bytes { result.card.bytes.now ≡ card.now }
-    ensures index { result.index ≡ index }
-{
-    BlockView {
-        card: CardView {
-            depth: Depth {
-                levels: anchor.depth,
-            },
-            root: anchor.root,
-            bytes: card,
-        },
-        index,
-    }
+    context.count + stamp::blank(&context, anchor.card_depth(), anchor.root, card)
 }
 
 // Read.
@@ -67,15 +45,15 @@ pub fn read(
         (outcome (cmac_of anchor.key) anchor card.now (read index.0 buffer.old))
         (answer_in result.value) result.count anchor card.now buffer.new }
 {
-    let block = block_of(anchor, card, index);
+    let block = BlockView::of(anchor, card, index);
     let context = Context::new(anchor.key);
     let found = walk::path(&context, &block);
     if found.value.is_ok() {
         words::put(buffer, 0, block.bytes());
     }
     Counted {
-        value: found.value,
         count: context.count + found.count,
+        ..found
     }
 }
 
@@ -92,7 +70,7 @@ pub fn write(
         (outcome (cmac_of anchor.key) anchor card.old (write index.0 block.now ranges.old))
         (answer_in result.value) result.count (result_unwrap_or result.value anchor) card.new ranges.new }
 {
-    let seen = block_of(anchor, card, index);
+    let seen = BlockView::of(anchor, card, index);
     let path = seen.path();
     let context = Context::new(anchor.key);
     let found = walk::pairs(&context, &seen);
@@ -103,7 +81,12 @@ pub fn write(
             count,
         };
     }
-    let tagged = stamp::block(&context, path, anchor.root, card, block);
+    let new = NewBlock {
+        path,
+        last: anchor.root,
+        bytes: block,
+    };
+    let tagged = new.stamp(&context, card);
     ranges::fill(path, ranges);
     Counted {
         value: Ok(moved(anchor)),
@@ -118,18 +101,11 @@ pub fn check(anchor: Anchor, card: &[u8]) -> Counted<Result<(), Error>>
         (outcome (cmac_of anchor.key) anchor card.now check)
         (answer_in result.value) result.count anchor card.now [] }
 {
-    let card = CardView {
-        depth: Depth {
-            levels: anchor.depth,
-        },
-        root: anchor.root,
-        bytes: card,
-    };
     let context = Context::new(anchor.key);
-    let found = walk::all(&context, &card);
+    let found = walk::all(&context, &CardView::of(anchor, card));
     Counted {
-        value: found.value,
         count: context.count + found.count,
+        ..found
     }
 }
 

@@ -1,8 +1,12 @@
--- A refused plan has the code of its answer, whatever that is.
-use Rattle.std.proofs.Common.{rules}
-use Rattle.host_bytes.specs.Split.{host_plan}
+-- A plan of the lengths that are right is planned.
+use Rattle.std.proofs.Common.{rules, ap, ◌∙◌}
+use Rattle.host_bytes.specs.Host.{anchor_of}
+use Rattle.host_bytes.proofs.SplitLaws.{plan_measured}
 use Rattle.host_split.proofs.plan.Goals as goal
 
-pub returns-in-Err : goal.returns-in-Err
-unfolding host_plan
-returns-in-Err c = search rules
+pub returns : goal.returns
+returns c =
+    let anchor = c.in-Some.ensures.cases in
+    let plan = c.in-Some-as_mut_array.ensures.cases in
+    plan_measured _ _ _ _ _ _ _ c.plan-made.ensures c.of.ensures c.settle.ensures
+    (c.of-given.ensures ∙ ap anchor_of anchor.same) plan.same anchor.long plan.long (search rules) (search rules)

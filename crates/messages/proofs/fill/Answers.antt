@@ -30,17 +30,19 @@ pub loop-level-init : goal.loop-level-init
 unfolding joined up_to
 loop-level-init c = refl
 
-pub put-requires-clause-node : goal.put-requires-clause-node
-put-requires-clause-node c =
+pub invariant_of-left : goal.invariant_of-left
+invariant_of-left c =
     let b = c.args.block.now in
     let p = c.path-path.ensures in
-    let u = c.node-own.result.0 in
-    on-card b.card.depth.levels b.index.0 b.on_card c.loop-level.level u (2 * (u / 2)) (omega arith)
-    (same_node _ c.node-own.ensures p.depth p.index) (omega arith)
+    record {
+      on_card =
+          on-card b.card.depth.levels b.index.0 b.on_card c.loop-level.level c.node-own.result.0 c.pair.result.0.0 (omega arith)
+          (same_node _ c.node-own.ensures p.depth p.index) (omega (arith, c.pair.ensures.lower));
+    }
 
-pub put-requires-clause-node_in_bounds : goal.put-requires-clause-node_in_bounds
-put-requires-clause-node_in_bounds c =
-    omega (arith, size_low c.args.block.now.card.depth.levels (2 * (c.node-own.result.0 / 2)))
+pub put-requires : goal.put-requires
+put-requires c =
+    omega (arith, c.message.ensures.size, size_low c.args.block.now.card.depth.levels c.pair.result.0.0)
 
 pub overflow_add-next : goal.overflow_add-next
 overflow_add-next c = omega (arith, c.size.ensures, size_low c.path-path.result.depth.levels c.node-own.result.0)
@@ -48,22 +50,24 @@ overflow_add-next c = omega (arith, c.size.ensures, size_low c.path-path.result.
 pub overflow_add-next-in-loop-level : goal.overflow_add-next-in-loop-level
 overflow_add-next-in-loop-level c = omega (arith, c.size.ensures, size_low c.path-path.result.depth.levels c.node-own.result.0)
 
-pub put-requires-in-loop-level-clause-node : goal.put-requires-in-loop-level-clause-node
-put-requires-in-loop-level-clause-node c =
+pub invariant_of-right : goal.invariant_of-right
+invariant_of-right c =
     let b = c.args.block.now in
     let p = c.path-path.ensures in
-    let u = c.node-own.result.0 in
-    on-card b.card.depth.levels b.index.0 b.on_card c.loop-level.level u (2 * (u / 2) + 1) (omega arith)
-    (same_node _ c.node-own.ensures p.depth p.index) (omega arith)
+    record {
+      on_card =
+          on-card b.card.depth.levels b.index.0 b.on_card c.loop-level.level c.node-own.result.0 c.pair.result.1.0 (omega arith)
+          (same_node _ c.node-own.ensures p.depth p.index) (omega (arith, c.pair.ensures.upper));
+    }
 
-pub put-requires-in-loop-level-clause-node_in_bounds : goal.put-requires-in-loop-level-clause-node_in_bounds
-put-requires-in-loop-level-clause-node_in_bounds c =
-    let u = c.node-own.result.0 in
+pub put-requires-in-loop-level : goal.put-requires-in-loop-level
+put-requires-in-loop-level c =
     omega (
       arith,
       c.size.ensures,
-      size_low c.path-path.result.depth.levels u,
-      size_low c.args.block.now.card.depth.levels (2 * (u / 2) + 1),
+      size_low c.path-path.result.depth.levels c.node-own.result.0,
+      c.message-in-loop-level.ensures.size,
+      size_low c.args.block.now.card.depth.levels c.pair.result.1.0,
     )
 
 pub loop-level-preserved : goal.loop-level-preserved
@@ -76,8 +80,10 @@ loop-level-preserved c =
     let u = c.node-own.result.0 in
     let p = c.path-path.ensures in
     c.put-in-loop-level.ensures
-    ∙ ap₂ (λ (l : List ℕ) (k : ℕ). sets l (34 * y + k + 9) (message L (2 * (u / 2) + 1))) c.put.ensures
-    (c.size.ensures ∙ ap (λ (m : ℕ). size m u) p.depth)
+    ∙ ap₂ (λ (l x : List ℕ). sets l (34 * y + c.size.result + 9) x) c.put.ensures
+    (c.message-in-loop-level.ensures.form ∙ ap (message L) c.pair.ensures.upper)
+    ∙ ap₂ (λ (x : List ℕ) (k : ℕ). sets (sets c.loop-level.buffer (34 * y) x) (34 * y + k + 9) (message L (2 * (u / 2) + 1)))
+    (c.message.ensures.form ∙ ap (message L) c.pair.ensures.lower) (c.size.ensures ∙ ap (λ (m : ℕ). size m u) p.depth)
     ∙ messages-more n b.index.0 b.on_card b.card.deep L (labels-sized n t b.card.bytes.now b.card.full)
     (root-length n t b.card.bytes.now) c.args.buffer.now c.loop-level.buffer y u (omega arith) c.loop-level.invariant
     (same_node _ c.node-own.ensures p.depth p.index)

@@ -14,6 +14,6 @@ plan-requires c =
 pub returns-in-Err : goal.returns-in-Err
 unfolding limits
 returns-in-Err c =
-    rw c.from.ensures
+    rw (c.refused.ensures.value, c.refused.ensures.count)
     (plan-limited c.args.anchor c.args.card.now c.args.index.0 c.args.block.now c.args.ranges.now c.args.messages.now c.in-Err.refusal
     (sym c.write.ensures ∙ c.in-Err.is))

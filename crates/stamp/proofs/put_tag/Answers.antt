@@ -6,42 +6,46 @@ use Rattle.words.specs.Words.{bytes}
 use Rattle.cmac.specs.Context.{tag_by, count_by}
 use Rattle.tree.specs.Layout.{size, offset, label}
 use Rattle.tree.specs.Labels.{form}
-use Rattle.tree.proofs.LayoutLaws.{entry-ends, size_low}
+use Rattle.tree.proofs.LayoutLaws.{entry-on, size_low}
 use Rattle.stamp.proofs.put_tag.Goals as goal
 
-pub overflow_add-middle : goal.overflow_add-middle
-overflow_add-middle c = omega (arith, entry-ends _ _ _ _ _ c.requires.full c.args.entry.on_card c.offset-start.ensures c.size.ensures)
+pub slice_bounds-message-end : goal.slice_bounds-message-end
+slice_bounds-message-end c =
+    let e = c.args.entry in
+    omega (arith, entry-on e.depth.levels c.args.card.now e.node.0 c.requires e.on_card, c.tag_offset-place.ensures)
 
-pub slice_bounds-of-end : goal.slice_bounds-of-end
-slice_bounds-of-end c = omega (arith, entry-ends _ _ _ _ _ c.requires.full c.args.entry.on_card c.offset-start.ensures c.size.ensures)
-
-pub of-made-requires : goal.of-made-requires
-of-made-requires c =
-    simp (length-take, length-drop) (omega (arith, c.offset-start.ensures, c.size.ensures, size_low c.args.entry.depth.levels c.args.entry.node.0))
+pub invariant_of-message : goal.invariant_of-message
+invariant_of-message c =
+    let e = c.args.entry in
+    record {
+      short = simp (length-take, length-drop) (omega (arith, c.offset.ensures, c.tag_offset-place.ensures, size_low e.depth.levels e.node.0));
+    }
 
 pub put-requires : goal.put-requires
-put-requires c = entry-ends _ _ _ _ _ c.requires.full c.args.entry.on_card c.offset-start.ensures c.size.ensures
+put-requires c =
+    let e = c.args.entry in
+    omega (arith, entry-on e.depth.levels c.args.card.now e.node.0 c.requires e.on_card, c.tag_offset-place.ensures)
 
 -- the message that is put together
-formed : (n : ℕ) (card : List ℕ) (u o s p : ℕ) → o ≡ offset n u → s ≡ size n u
-    → form (take (o + s - o) (drop o card)) (bytes 8 p) (u % 2) ≡ form (label n card u) (bytes 8 p) (u % 2)
+formed : (n : ℕ) (card : List ℕ) (u o m p s : ℕ) → o ≡ offset n u → m ≡ offset n u + size n u → s ≡ u % 2
+    → form (take (m - o) (drop o card)) (bytes 8 p) s ≡ form (label n card u) (bytes 8 p) (u % 2)
 unfolding label
-formed n card u o s p eo es =
-    let e : o + s - o ≡ size n u = omega arith in
-    ap (λ (x : List ℕ). form x (bytes 8 p) (u % 2)) (ap₂ (part card) eo e)
+formed n card u o m p s eo em es =
+    let e : m - o ≡ size n u = omega arith in
+    ap₂ (λ (x : List ℕ) (s : ℕ). form x (bytes 8 p) s) (ap₂ (part card) eo e) es
 
 pub returns-clause-card_after : goal.returns-clause-card_after
 returns-clause-card_after c =
     let a = c.args in
     c.put.ensures
-    ∙ ap₂ (sets a.card.now) (ap₂ ◌+◌ c.offset-start.ensures c.size.ensures)
-    (c.of-made.ensures.value
+    ∙ ap₂ (sets a.card.now) c.tag_offset-place.ensures
+    (c.tag-made.ensures.value
     ∙ ap (tag_by a.context.now)
-    (formed a.entry.depth.levels a.card.now a.entry.node.0 c.offset-start.result c.size.result a.parent c.offset-start.ensures c.size.ensures))
+    (formed a.entry.depth.levels a.card.now a.entry.node.0 _ _ a.parent _ c.offset.ensures c.tag_offset-place.ensures c.side.ensures))
 
 pub returns-clause-value : goal.returns-clause-value
 returns-clause-value c =
     let a = c.args in
-    c.of-made.ensures.count
+    c.tag-made.ensures.count
     ∙ ap (count_by a.context.now)
-    (formed a.entry.depth.levels a.card.now a.entry.node.0 c.offset-start.result c.size.result a.parent c.offset-start.ensures c.size.ensures)
+    (formed a.entry.depth.levels a.card.now a.entry.node.0 _ _ a.parent _ c.offset.ensures c.tag_offset-place.ensures c.side.ensures)

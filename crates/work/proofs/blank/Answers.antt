@@ -8,7 +8,7 @@ use Rattle.work.proofs.blank.Goals as goal
 pub overflow_add-result : goal.overflow_add-result
 overflow_add-result c =
     let a = c.args.anchor in
-    let value = rw (counts-of-context a.key _ c.new-context.ensures) at c.blank.ensures.value in
+    let value = rw (counts-of-context a.key _ c.new-context.ensures, c.card_depth.ensures) at c.blank.ensures.value in
     omega (arith, value, subkeys-count a.key, few-blank a.key a.depth a.root.0 c.requires.deep c.requires.shallow)
 
 pub returns-clause-card_after : goal.returns-clause-card_after

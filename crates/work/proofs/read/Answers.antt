@@ -20,18 +20,16 @@ full-block n t i card buffer p =
     let u = 2 ^ n + i in
     length_label n card u p.sound.full (leaf-node n i p.sound.deep p.inside) ∙ omega (arith, leaf n u (omega arith))
 
-pub block_of-block-requires-clause-card : goal.block_of-block-requires-clause-card
-block_of-block-requires-clause-card c =
-    sound-card (passed c.args.anchor c.args.card.now (read c.args.index.0 c.args.buffer.now) c.requires).sound
+pub of-block-requires-clause-card : goal.of-block-requires-clause-card
+of-block-requires-clause-card c = sound-card (passed c.args.anchor c.args.card.now (read c.args.index.0 c.args.buffer.now) c.requires).sound
 
-pub block_of-block-requires-clause-index_bound : goal.block_of-block-requires-clause-index_bound
-block_of-block-requires-clause-index_bound c =
-    (passed c.args.anchor c.args.card.now (read c.args.index.0 c.args.buffer.now) c.requires).inside
+pub of-block-requires-clause-index : goal.of-block-requires-clause-index
+of-block-requires-clause-index c = (passed c.args.anchor c.args.card.now (read c.args.index.0 c.args.buffer.now) c.requires).inside
 
 pub put-requires : goal.put-requires
 put-requires c =
     let a = c.args.anchor in
-    let b = c.block_of-block.ensures in
+    let b = c.of-block.ensures in
     let e = rw (b.depth, b.bytes, b.index) at c.bytes.ensures in
     omega (
       arith,
@@ -46,7 +44,7 @@ overflow_add-result c =
     let a = c.args.anchor in
     let card = c.args.card.now in
     let call = read c.args.index.0 c.args.buffer.now in
-    let b = c.block_of-block.ensures in
+    let b = c.of-block.ensures in
     omega (
       arith,
       count_of_lem a.key _ c.new-context.ensures a.depth a.root.0 card (path a.depth c.args.index.0)
@@ -64,7 +62,7 @@ returns c =
     let i = c.args.index.0 in
     let us = path a.depth i in
     let made = c.new-context.ensures in
-    let b = c.block_of-block.ensures in
+    let b = c.of-block.ensures in
     let filled : c.if-is_ok.buffer ≡ cond (is_ok c.path-found.result.value) (label a.depth card (2 ^ a.depth + i)) buffer =
     elim c.if-is_ok.branch [
       | then-is_ok w ↦

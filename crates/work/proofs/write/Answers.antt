@@ -9,13 +9,12 @@ use Rattle.tree.proofs.LimitLaws.{passed, sound-card}
 use Rattle.work.proofs.OutcomeLaws.{few-calls, found_of, count_of_lem, reports-wrong, reports-write}
 use Rattle.work.proofs.write.Goals as goal
 
-pub block_of-seen-requires-clause-card : goal.block_of-seen-requires-clause-card
-block_of-seen-requires-clause-card c =
+pub of-seen-requires-clause-card : goal.of-seen-requires-clause-card
+of-seen-requires-clause-card c =
     sound-card (passed c.args.anchor c.args.card.now (write c.args.index.0 c.args.block.now c.args.ranges.now) c.requires).sound
 
-pub block_of-seen-requires-clause-index_bound : goal.block_of-seen-requires-clause-index_bound
-block_of-seen-requires-clause-index_bound c =
-    (passed c.args.anchor c.args.card.now (write c.args.index.0 c.args.block.now c.args.ranges.now) c.requires).inside
+pub of-seen-requires-clause-index : goal.of-seen-requires-clause-index
+of-seen-requires-clause-index c = (passed c.args.anchor c.args.card.now (write c.args.index.0 c.args.block.now c.args.ranges.now) c.requires).inside
 
 pub overflow_add-count : goal.overflow_add-count
 unfolding checks
@@ -23,7 +22,7 @@ overflow_add-count c =
     let a = c.args.anchor in
     let card = c.args.card.now in
     let call = write c.args.index.0 c.args.block.now c.args.ranges.now in
-    let b = c.block_of-seen.ensures in
+    let b = c.of-seen.ensures in
     omega (
       arith,
       count_of_lem a.key _ c.new-context.ensures a.depth a.root.0 card (pairs_but_leaf a.depth c.args.index.0)
@@ -39,20 +38,16 @@ returns-in-Err c =
     let card = c.args.card.now in
     let us = pairs_but_leaf a.depth c.args.index.0 in
     let made = c.new-context.ensures in
-    let b = c.block_of-seen.ensures in
+    let b = c.of-seen.ensures in
     reports-wrong a card (write c.args.index.0 c.args.block.now c.args.ranges.now) _ _ c.requires
     (ap answer_in (sym c.in-Err.is)
     ∙ found_of a.key _ made a.depth a.root.0 card us (rw (b.depth, b.root, b.bytes, b.index) at c.pairs-found.ensures.value))
     (count_of_lem a.key _ made a.depth a.root.0 card us (rw (b.depth, b.root, b.bytes, b.index) at c.pairs-found.ensures.count))
 
-pub block-tagged-requires-clause-block_len : goal.block-tagged-requires-clause-block_len
-block-tagged-requires-clause-block_len c =
-    (passed c.args.anchor c.args.card.now (write c.args.index.0 c.args.block.now c.args.ranges.now) c.requires).long
-
-pub block-tagged-requires-clause-depth_bound : goal.block-tagged-requires-clause-depth_bound
-block-tagged-requires-clause-depth_bound c =
+pub invariant_of-new : goal.invariant_of-new
+invariant_of-new c =
     let p = passed c.args.anchor c.args.card.now (write c.args.index.0 c.args.block.now c.args.ranges.now) c.requires in
-    omega (arith, p.unspent)
+    record { sized = p.long; nonces_left = omega (arith, p.unspent) }
 
 pub fill-requires : goal.fill-requires
 fill-requires c =
@@ -70,13 +65,13 @@ overflow_add-result c =
     let card = c.args.card.now in
     let call = write c.args.index.0 c.args.block.now c.args.ranges.now in
     let made = c.new-context.ensures in
-    let b = c.block_of-seen.ensures in
+    let b = c.of-seen.ensures in
     let p = c.path-path.ensures in
     omega (
       arith,
       count_of_lem a.key _ made a.depth a.root.0 card (pairs_but_leaf a.depth c.args.index.0)
           (rw (b.depth, b.root, b.bytes, b.index) at c.pairs-found.ensures.count),
-      rw (counts-of-context a.key _ made, p.depth, p.index, b.depth, b.index) at (c.block-tagged.ensures.value a.root.0),
+      rw (counts-of-context a.key _ made, p.depth, p.index, b.depth, b.index) at (c.stamp-tagged.ensures.value a.root.0),
       subkeys-count a.key,
       few-calls a.key a card call (passed a card call c.requires),
     )
@@ -88,14 +83,14 @@ returns c =
     let card = c.args.card.now in
     let us = pairs_but_leaf a.depth c.args.index.0 in
     let made = c.new-context.ensures in
-    let b = c.block_of-seen.ensures in
+    let b = c.of-seen.ensures in
     let p = c.path-path.ensures in
     reports-write a card c.args.index.0 c.args.block.now c.args.ranges.now _ _ _ _ c.requires
     (ap answer_in (sym c.in_default.is)
     ∙ found_of a.key _ made a.depth a.root.0 card us (rw (b.depth, b.root, b.bytes, b.index) at c.pairs-found.ensures.value))
     (ap₂ ◌+◌
     (count_of_lem a.key _ made a.depth a.root.0 card us (rw (b.depth, b.root, b.bytes, b.index) at c.pairs-found.ensures.count))
-    (rw (counts-of-context a.key _ made, p.depth, p.index, b.depth, b.index) at (c.block-tagged.ensures.value a.root.0)))
+    (rw (counts-of-context a.key _ made, p.depth, p.index, b.depth, b.index) at (c.stamp-tagged.ensures.value a.root.0)))
     c.moved.ensures
-    (rw (tags-of-context a.key _ made, p.depth, p.index, b.depth, b.index) at (c.block-tagged.ensures.card_after a.root.0))
+    (rw (tags-of-context a.key _ made, p.depth, p.index, b.depth, b.index) at (c.stamp-tagged.ensures.card_after a.root.0))
     (rw (p.depth, p.index, b.depth, b.index) at c.fill.ensures)

@@ -14,10 +14,10 @@ loop-node-init g c =
       λ us h. along_all c.args.context.now c.args.card.now _ _ (subst (λ s. GivesNodes g.I.Iterator.next_gives c.args.card.now.depth.levels s us) (sym e) h),
     )
 
-pub is_right-tested-requires : goal.is_right-tested-requires
-is_right-tested-requires g c =
+pub invariant_of-seen : goal.invariant_of-seen
+invariant_of-seen g c =
     let us = c.requires.nodes in
-    along_node c.args.context.now c.args.card.now _ _ (c.loop-node.invariant.2 us.0 us.1) c.in-Some.ensures.steps
+    record { on_card = along_node c.args.context.now c.args.card.now _ _ (c.loop-node.invariant.2 us.0 us.1) c.in-Some.ensures.steps }
 
 pub overflow_add-count : goal.overflow_add-count
 overflow_add-count g c =

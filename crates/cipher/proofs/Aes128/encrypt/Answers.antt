@@ -1,4 +1,4 @@
-use Rattle.std.proofs.Common.{◌≡◌, List, ℕ, ◌+◌, ◌-◌, refl, ap, ap₂, sym, ◌∙◌, arith}
+use Rattle.std.proofs.Common.{◌≡◌, List, ℕ, ◌+◌, ◌-◌, refl, ap₂, sym, ◌∙◌, arith}
 use Rattle.cipher.specs.State.{sub_bytes, shift_rows, mix_columns, add_round_key}
 use Rattle.cipher.specs.Cipher.{round_key, rounds, last_round, cipher_of}
 use Rattle.cipher.proofs.Rounds.{rounds-more, round-key-added}
@@ -21,7 +21,7 @@ pub returns : goal.returns
 unfolding round_key last_round cipher_of
 returns c =
     let n : c.loop-i.i - 1 ≡ 9 = omega arith in
-    let s₀ = c.from-state.ensures ∙ c.bitxor.ensures ∙ round-key-added _ _ ∙ ap (add_round_key _) c.at.ensures in
-    c.from.ensures ∙ c.last.ensures
+    let s₀ = c.bitxor-state.ensures ∙ round-key-added _ _ ∙ ap₂ add_round_key c.from.ensures c.at.ensures in
+    c.from-2.ensures ∙ c.last.ensures
     ∙ ap₂ (λ (s k : List ℕ). add_round_key (shift_rows (sub_bytes s)) k)
     (c.loop-i.invariant ∙ ap₂ (rounds c.args.self.now.schedule) s₀ n) c.at-2.ensures

@@ -4,4 +4,4 @@ use Rattle.host_bytes.proofs.StoredLaws.{stored-is}
 use Rattle.host_bytes.proofs.anchor.put_root.Goals as goal
 
 pub returns : goal.returns
-returns c = c.put.ensures ∙ ap (sets c.args.bytes.now 24) c.be.ensures ∙ stored-is c.args.bytes.now 24 c.requires c.args.root.0
+returns c = c.put.ensures ∙ ap (sets c.args.bytes.now 24) c.be.ensures ∙ stored-is c.args.bytes.now 24 c.told-bytes c.args.root.0

@@ -26,5 +26,5 @@ returns c =
     (c.put.ensures ∙ ap (sets c.args.bytes.now 0) c.be.ensures)
     c.be-2.ensures)
     c.be-3.ensures
-    ∙ stored c.args.bytes.now (be8 p.index.0) (be8 p.root.0) (be8 p.filled) c.requires
+    ∙ stored c.args.bytes.now (be8 p.index.0) (be8 p.root.0) (be8 p.filled) c.told-bytes
     (length-be 8 p.index.0) (length-be 8 p.root.0) (length-be 8 p.filled)

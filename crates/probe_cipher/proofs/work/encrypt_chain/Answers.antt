@@ -1,9 +1,8 @@
 use Rattle.std.proofs.Common.{ℕ, ◌≡◌, List, refl, sym, ap, ap₂, ◌∙◌, arith}
 use Rattle.cipher.specs.Cipher.{cipher_of}
-use Rattle.cipher.specs.KeyExpansion.{key_expansion}
 use Rattle.cipher.proofs.Rounds.{cipher-of-key}
 use Rattle.probe.specs.Told.{repeated}
-use Rattle.probe.proofs.Laws.{part-all, stored-all, repeated-more}
+use Rattle.probe.proofs.Laws.{part-all, repeated-more}
 use Rattle.probe_cipher.proofs.work.encrypt_chain.Goals as goal
 
 pub loop-init : goal.loop-init
@@ -21,9 +20,7 @@ returns c =
     let block = c.args.block.now in
     let schedule = c.new-aes.result.schedule in
     let n : c.loop.counter ≡ c.args.count = omega arith in
-    let w = c.new-aes.ensures ∙ ap key_expansion c.key_of.ensures in
-    let first = c.at-x.ensures ∙ part-all block c.requires.1 in
-    c.put.ensures ∙ stored-all block _ refl c.requires.1
-    ∙ c.loop.invariant
+    let first = c.at-x.ensures ∙ part-all block c.told-block in
+    c.into.ensures ∙ c.loop.invariant
     ∙ ap₂ (λ (b : List ℕ) (i : ℕ). repeated (cipher_of schedule) b i) first n
-    ∙ ap (λ (e : List ℕ → List ℕ). repeated e block c.args.count) (ap cipher_of w ∙ cipher-of-key key)
+    ∙ ap (λ (e : List ℕ → List ℕ). repeated e block c.args.count) (ap cipher_of c.new-aes.ensures ∙ cipher-of-key key)

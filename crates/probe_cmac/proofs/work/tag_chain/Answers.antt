@@ -19,7 +19,6 @@ loop-preserved c =
     let n : 16 ≤ length m = omega arith in
     let tagged : x ≡ cmac_of key m =
     c.tag.ensures.value
-    ∙ ap (λ (F : List ℕ → List ℕ). F m) (tags-of-context c.key_of.result c.new-context.result c.new-context.ensures)
-    ∙ ap (λ (k : List ℕ). cmac_of k m) c.key_of.ensures in
+    ∙ ap (λ (F : List ℕ → List ℕ). F m) (tags-of-context key c.new-context.result c.new-context.ensures) in
     c.put.ensures ∙ stored m x refl n ∙ ap (λ (x : List ℕ). x ++ drop 16 m) tagged
     ∙ ap (retagged key) c.loop.invariant ∙ sym (repeated-more (retagged key) _ c.loop.counter)

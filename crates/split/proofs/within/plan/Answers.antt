@@ -4,6 +4,7 @@ use Rattle.cmac.proofs.TraceLaws.{subkeys-count}
 use Rattle.tree.specs.Nodes.{pairs_but_leaf}
 use Rattle.tree.specs.Labels.{written_labels}
 use Rattle.tree.specs.Answer.{answer_in}
+use Rattle.tree.specs.declared.BlockIndex.{BlockIndex}
 use Rattle.tree.specs.Calls.{write, checks}
 use Rattle.tree.proofs.LimitLaws.{passed, sound-card}
 use Rattle.work.proofs.OutcomeLaws.{few-calls, found_of, count_of_lem}
@@ -14,34 +15,22 @@ use Rattle.split.proofs.OutcomeLaws.{plan-wrong, plan-whole, messages-bytes}
 use Rattle.split.proofs.within.plan.Goals.{in-Ok, in-Err}
 use Rattle.split.proofs.within.plan.Goals as goal
 
-pub invariant_of-depth : goal.invariant_of-depth
-invariant_of-depth c =
-    let p = passed c.args.anchor c.args.card.now (write c.args.index.0 c.args.block.now c.args.ranges.now) c.requires in
-    record { shallow = p.sound.shallow }
+pub of-seen-requires-clause-card : goal.of-seen-requires-clause-card
+of-seen-requires-clause-card c =
+    sound-card (passed c.args.anchor c.args.card.now (write c.args.index.0 c.args.block.now c.args.ranges.now) c.requires).sound
 
-pub invariant_of-seen : goal.invariant_of-seen
-invariant_of-seen c =
-    let p = passed c.args.anchor c.args.card.now (write c.args.index.0 c.args.block.now c.args.ranges.now) c.requires in
-    record { deep = p.sound.deep; full = p.sound.full }
+pub of-seen-requires-clause-index : goal.of-seen-requires-clause-index
+of-seen-requires-clause-index c = (passed c.args.anchor c.args.card.now (write c.args.index.0 c.args.block.now c.args.ranges.now) c.requires).inside
 
-pub invariant_of-seen-2 : goal.invariant_of-seen-2
-invariant_of-seen-2 c =
+pub invariant_of-new : goal.invariant_of-new
+invariant_of-new c =
     let p = passed c.args.anchor c.args.card.now (write c.args.index.0 c.args.block.now c.args.ranges.now) c.requires in
-    record { on_card = p.inside }
-
-pub lay-requires-clause-block_len : goal.lay-requires-clause-block_len
-lay-requires-clause-block_len c =
-    (passed c.args.anchor c.args.card.now (write c.args.index.0 c.args.block.now c.args.ranges.now) c.requires).long
+    record { sized = p.long; nonces_left = omega (arith, p.unspent) }
 
 pub lay-requires-clause-ranges_room : goal.lay-requires-clause-ranges_room
 lay-requires-clause-ranges_room c =
     let p = passed c.args.anchor c.args.card.now (write c.args.index.0 c.args.block.now c.args.ranges.now) c.requires in
     omega (arith, p.room)
-
-pub lay-requires-clause-nonces_left : goal.lay-requires-clause-nonces_left
-lay-requires-clause-nonces_left c =
-    let p = passed c.args.anchor c.args.card.now (write c.args.index.0 c.args.block.now c.args.ranges.now) c.requires in
-    omega (arith, p.unspent)
 
 pub overflow_add-result : goal.overflow_add-result
 unfolding checks
@@ -49,9 +38,10 @@ overflow_add-result c =
     let a = c.args.anchor in
     let card = c.args.card.now in
     let call = write c.args.index.0 c.args.block.now c.args.ranges.now in
+    let v = c.of-seen.ensures in
     omega (
       arith,
-      count_of_lem a.key _ c.new-context.ensures a.depth a.root.0 card (pairs_but_leaf a.depth c.args.index.0) c.pairs-found.ensures.count,
+      count_of_lem a.key _ c.new-context.ensures a.depth a.root.0 card (pairs_but_leaf a.depth c.args.index.0) (rw (v.depth, v.root, v.bytes, v.index) at c.pairs-found.ensures.count),
       subkeys-count a.key,
       few-calls a.key a card call (passed a card call c.requires),
     )
@@ -68,8 +58,9 @@ returns c =
     let ranges = c.args.ranges.now in
     let us = pairs_but_leaf n i in
     let made = c.new-context.ensures in
-    let found = found_of a.key _ made n t card us c.pairs-found.ensures.value in
-    let count = count_of_lem a.key _ made n t card us c.pairs-found.ensures.count in
+    let v = c.of-seen.ensures in
+    let found = found_of a.key _ made n t card us (rw (v.depth, v.root, v.bytes, v.index) at c.pairs-found.ensures.value) in
+    let count = count_of_lem a.key _ made n t card us (rw (v.depth, v.root, v.bytes, v.index) at c.pairs-found.ensures.count) in
     let s = passed a card (write i block ranges) c.requires in
     let path = c.path-path.ensures in
     elim c.match-found.branch [
@@ -79,9 +70,9 @@ returns c =
           (ap answer_in (sym w.in-Ok.is) ∙ found) count
           (w.lay.ensures.value
           ∙ ap₂ (λ (j m : ℕ). let q : Plan = record { index = record { 0 = j }; root = record { 0 = t + m }; filled = 0 } in q)
-          path.index path.depth)
-          (rw (path.depth, path.index) at w.lay.ensures.card_after) (rw (path.depth, path.index) at w.lay.ensures.ranges_after)
-          ((rw (path.depth, path.index) at w.lay.ensures.messages_after)
+          (path.index ∙ ap (λ (i : BlockIndex). i.0) v.index) (path.depth ∙ v.depth))
+          (rw (path.depth, path.index, v.depth, v.index) at w.lay.ensures.card_after) (rw (path.depth, path.index, v.depth, v.index) at w.lay.ensures.ranges_after)
+          ((rw (path.depth, path.index, v.depth, v.index) at w.lay.ensures.messages_after)
           ∙ ap (λ (k : ℕ). joined (map (given (written_labels n t t card i block)) (plan_nodes n i)) ++ drop k c.args.messages.now)
           (sym (messages-bytes n t i card block (sound-card s.sound) s.inside s.long))))
       | in-Err w ↦

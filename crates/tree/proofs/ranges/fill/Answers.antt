@@ -1,4 +1,4 @@
-use Rattle.std.proofs.Common.{◌≡◌, ◌<◌, ◌^◌, ◌+◌, ◌*◌, ◌/◌, ℕ, List, [], ◌∷◌, ◌++◌, length, drop, refl, sym, ap, subst, ◌∙◌, arith}
+use Rattle.std.proofs.Common.{◌≡◌, ◌<◌, ◌^◌, ◌+◌, ◌*◌, ◌/◌, ℕ, List, [], ◌∷◌, ◌++◌, length, drop, refl, sym, ap, ap₂, subst, ◌∙◌, arith}
 use Rattle.std.proofs.lemmas.List.Edits.{sets, sets-eq}
 use Rattle.tree.specs.Layout.{IsNode}
 use Rattle.tree.specs.Nodes.{path_node}
@@ -28,8 +28,10 @@ loop-level-preserved c =
     let loop = c.loop-level in
     let n = c.args.path.depth.levels in
     let u = c.node-own.result.0 in
+    let put : List ℕ → ℕ → ℕ → List ℕ = λ s o w. sets s o (encode (range_of n u w ∷ [])) in
     c.put_entry-in-loop-level.ensures
-    ∙ ap (λ (l : List ℕ). sets l (16 * loop.level + 8) (encode (range_of n u (2 * (u / 2) + 1) ∷ []))) c.put_entry.ensures
+    ∙ ap (λ (l : List ℕ). put l (16 * loop.level + 8) c.pair.result.1.0) c.put_entry.ensures
+    ∙ ap₂ (λ (v w : ℕ). put (put loop.buffer (16 * loop.level) v) (16 * loop.level + 8) w) c.pair.ensures.lower c.pair.ensures.upper
     ∙ ranges_more n c.args.path.index.0 c.args.buffer.now loop.buffer loop.level u loop.invariant c.node-own.ensures
 
 pub returns : goal.returns
