@@ -133,8 +133,8 @@ enum pat_refusals {
     PAT_REFUSED_ROOT_NONCE = 2,   // T is no multiple of the depth: the anchor
     PAT_REFUSED_CARD_LENGTH = 3,  // not the length of a card of this depth: whoever has the card
     PAT_REFUSED_BLOCK_NUMBER = 4, // the block number is 2^depth or above: the calling software
-    PAT_REFUSED_LENGTH = 5,       // anchor not 32 bytes, block not 64, plan not 24, messages not
-                                  // 656, or tag not 16: the calling software
+    PAT_REFUSED_LENGTH = 5,       // anchor not 32 bytes, block or buffer not 64, plan not 24,
+                                  // messages not 656, or tag not 16: the calling software
     PAT_REFUSED_RANGE_LENGTH = 6, // the range buffer is too short: the calling software
     PAT_REFUSED_SPENT = 7,        // no write or wipe fits, T + depth passes 2^64 - 1: the anchor
     PAT_REFUSED_TAG = 8,          // the tag of the node named is wrong: whoever has the card

@@ -25,7 +25,7 @@ pub record RoundTrip (s card : List ℕ) : Type 0 where
   pub call-refused : (c : Call) (code : ℕ) (e left lent : List ℕ) → Hosts (host_call s card c) code e left lent → (code ≡ 0 → ⊥)
       → (e ≡ s) × (left ≡ card) × (lent ≡ lent_to c)
 
--- bytes of the right number that stand for the plan p, whose numbers fit into 8 bytes each
+-- bytes of the right number that stand for the plan p, whose root nonce and filled places fit into 8 bytes each
 pub record StandsPlan (bytes : List ℕ) (p : Plan) : Type 0 where
   pub long : length bytes ≡ plan_bytes
   pub is : plan_of bytes ≡ p

@@ -8,9 +8,11 @@ use native.Mathlib.Nat.{add-mul}
 use native.Mathlib.Omega.{arith}
 use borrow.Author.Tests.{eq-eqb}
 use lib.ListN.{length, replicate, length-replicate}
+use Rattle.std.proofs.Math.Option.{none}
 use Rattle.cmac.specs.Cmac.{cmac_of}
 use Rattle.cmac.proofs.Laws.{length-cmac}
-use Rattle.tree.specs.Calls.{Call, wipe, is_write, renews, format}
+use Rattle.tree.specs.Limits.{first_failing}
+use Rattle.tree.specs.Calls.{Call, wipe, limits, is_write, renews, format}
 use Rattle.tree.specs.declared.Anchor.{Anchor}
 use Rattle.replay.specs.Array
 use Rattle.replay.specs.Array.{Told, Array, zeroed, moved}
@@ -18,17 +20,17 @@ use Rattle.replay.specs.Places.{Place}
 use Rattle.replay.specs.Run
 use Rattle.replay.specs.Run.{Step, call_of, Store, State, start, result, next, after, renewals}
 use Rattle.replay.specs.Claim
-use Rattle.replay.specs.Claim.{Agrees, Accepted, AcceptedWipe, known, AllComplete, Agreement, Forgery}
+use Rattle.replay.specs.Claim.{Agrees, Accepted, AcceptedWipe, known, AllComplete, Agreement, Forgery, Faithful}
 use Rattle.replay.proofs.PlaceLaws.{earlier, mapped, Image, image}
 use Rattle.replay.proofs.Moves.{moved_length}
 use Rattle.replay.proofs.Anchors.{after-key, next-root, after-root}
 use Rattle.host_bytes.specs.Host.{anchor_of, code_of}
 use Rattle.host_bytes.proofs.AnchorLaws.{code-whole, whole_code}
-use Rattle.host_replay.specs.Called.{Held, bytes, anchor_in, Called, step_of, steps, back_of, History, Formatted}
+use Rattle.host_replay.specs.Called.{Held, bytes, anchor_in, Called, given_to, step_of, steps, back_of, History, Formatted}
 use Rattle.host_replay.specs.Called.{begin, Demand3Of}
 use Rattle.host_replay.specs.Plain.{whole, called, shown, left_by, array_by, counted, renewals_by, Shows, Each, Agreed, Untouched}
 use Rattle.host_replay.specs.Plain.{AllUntouched, Unwiped, WritesUntouched, AllFilled, PlainDemand}
-use Rattle.host_replay.proofs.Theorem.{Tells, filled-complete, followed, demand3-of-calls}
+use Rattle.host_replay.proofs.Theorem.{Tells, given_is, filled-complete, followed, demand3-of-calls}
 use Rattle.host_replay.proofs.SplitSteps.{code_is}
 use Rattle.host_replay.proofs.ByAnswers.{not-wrong, left_by_lem, array-by, renewals-by, untouched-here}
 
@@ -152,9 +154,9 @@ module _ (anchor card made left : List ℕ) (formatted : Formatted anchor card 0
   -- behind the place that a place of the list stands for there is no more than behind that
   unwiped : (q : Place (steps rs)) (i : Image step_of rs q)
       → Claim.Unwiped (cmac_of (anchor_of anchor).key) (begin anchor card) q → Unwiped i.place
-  unwiped q i none r b zero w =
+  unwiped q i free r b zero w =
       let f = step_of in
-      none (mapped f r)
+      free (mapped f r)
       (record {
         between = map f b.between;
         is = ap (map f) b.is ∙ map-append f i.place.before (i.place.item ∷ b.between)
@@ -199,20 +201,39 @@ module _ (anchor card made left : List ℕ) (formatted : Formatted anchor card 0
   complete : AllComplete (cmac_of (anchor_of anchor).key) (begin anchor card) (steps rs)
   complete = filled-complete anchor card made left formatted rs ran filled
 
-  quiet : Each rs (λ before r. WritesUntouched left before → shown r ≡ left_by left before → (u : ℕ) → (back_of r).code ≡ 8 + 256 * u → ⊥)
-  quiet p f same u code =
+  d : Demand3Of anchor card made left rs
+  d = demand3-of-calls anchor card made left formatted rs ran complete
+
+  -- the writes before a call are untouched in the list too, and so is the call's card
+  faithful : (p : Place rs) → WritesUntouched left p.before → Faithful (cmac_of (anchor_of anchor).key) (begin anchor card) (steps p.before)
+  faithful p f q free a w =
       let early = front-ran (bytes made) p.before (p.item ∷ p.behind) (subst (History (bytes made)) p.is ran) in
       let before = complete-before anchor card made left formatted rs ran complete p in
-      let d = demand3-of-calls anchor card made left formatted rs ran complete in
-      not-wrong _
-      (d.demand.quiet (mapped step_of p)
-      (λ q none a w.
       untouched anchor card made left formatted p.before early before q a
       (λ i zero.
-      f i.place (unwiped anchor card made left formatted p.before early before q i none) zero
-      (ap (λ (y : Step). is_write (call_of y)) i.item-is ∙ w)))
-      (same ∙ sym (left_is anchor card made left formatted rs ran complete p)))
-      u (sym (d.told p).coded ∙ code)
+      f i.place (unwiped anchor card made left formatted p.before early before q i free) zero
+      (ap (λ (y : Step). is_write (call_of y)) i.item-is ∙ w))
+
+  as_left : (p : Place rs) → shown p.item ≡ left_by left p.before
+      → shown p.item ≡ (after (cmac_of (anchor_of anchor).key) (begin anchor card) (steps p.before)).store.left
+  as_left p same = same ∙ sym (left_is anchor card made left formatted rs ran complete p)
+
+  quiet : Each rs (λ before r. WritesUntouched left before → shown r ≡ left_by left before → (u : ℕ) → (back_of r).code ≡ 8 + 256 * u → ⊥)
+  quiet p f same u code = not-wrong _ (d.demand.quiet (mapped step_of p) (faithful p f) (as_left p same)) u (sym (d.told p).coded ∙ code)
+
+  accepted : Each rs (λ before r.
+      WritesUntouched left before → shown r ≡ left_by left before
+      → first_failing (limits (anchor_in (given_to r)) (shown r) (called r)) ≡ none → (back_of r).code ≡ 0)
+  accepted p f same passed =
+      let k = (anchor_of anchor).key in
+      let z = after (cmac_of k) (begin anchor card) (steps p.before) in
+      let g = followed anchor card made left formatted rs ran complete p in
+      (d.told p).coded
+      ∙ ap code_of
+      (d.unforged.accepts (mapped step_of p) (faithful p f) (as_left p same)
+      (subst (λ (a : Anchor). first_failing (limits a (shown p.item) (called p.item)) ≡ none)
+      (given_is k p.item z g.held g.knows g.handed g.met) passed))
+      ∙ whole_code
 
   pub plain-demand : PlainDemand anchor card left rs
   plain-demand =
@@ -221,9 +242,10 @@ module _ (anchor card made left : List ℕ) (formatted : Formatted anchor card 0
             (λ (a : Agreement (cmac_of (anchor_of anchor).key) (begin anchor card) (steps rs)). inl
             (agreed anchor card made left formatted rs ran complete a))
             (λ (f : Forgery (cmac_of (anchor_of anchor).key) (begin anchor card) (steps rs)). inr f)
-            (demand3-of-calls anchor card made left formatted rs ran complete).demand.safe;
+            d.demand.safe;
         honest = honest anchor card made left formatted rs ran complete;
         quiet = quiet;
+        accepted = accepted;
         root = root anchor card made left formatted rs ran complete;
         emptied = λ p zero w. emptied (2 ^ (anchor_of anchor).depth) p.before p.item zero w;
       }

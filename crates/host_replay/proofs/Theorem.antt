@@ -1,14 +1,15 @@
 -- Demand 3 of the functions for C, by their contracts alone.
 use mathlib.Core.Path.{◌≡◌, refl, sym, ap, subst, ◌∙◌}
-use mathlib.Core.List.{List, [], ◌∷◌}
+use mathlib.Core.List.{List, [], ◌∷◌, ◌++◌}
 use Prim.Native.Nat.{ℕ}
-use lib.ListN.{length}
+use lib.ListN.{length, drop}
 use Rattle.cmac.specs.Cmac.{cmac_of}
 use Rattle.tree.specs.Layout.{IsCard}
 use Rattle.cmac.proofs.Laws.{length-cmac}
 use Rattle.tree.specs.Calls.{Call, Outcome, outcome, format}
 use Rattle.tree.specs.declared.Anchor.{Anchor}
 use Rattle.tree.proofs.CallLaws.{format-in}
+use Rattle.plan.specs.Split.{planned, joined}
 use Rattle.replay.specs.Places.{Place}
 use Rattle.replay.specs.Run.{State, start, result, next, after}
 use Rattle.replay.specs.Claim.{Complete, AllComplete}
@@ -132,6 +133,17 @@ module _ (key : List ℕ) where
         is = given_is r z f.held f.knows f.handed f.met;
       }
 
+  -- and it handed out the plan's messages
+  pub gives : (given : List ℕ) (p : PlanCalled) (qs : List PutCalled) (z : State) → Follows z (split given p qs) →
+      let ms = joined (planned (cmac_of key) z.store.anchor p.card p.index p.block p.ranges).messages in
+      p.messages ≡ ms ++ drop (length ms) p.buffer
+  gives given p qs z f =
+      subst
+      (λ (l : List ℕ).
+      let ms = joined (planned (cmac_of l) z.store.anchor p.card p.index p.block p.ranges).messages in
+      p.messages ≡ ms ++ drop (length ms) p.buffer)
+      f.knows.0 (plan-codes z.store.anchor given (split-stood given p qs z f) p qs f.met).gave
+
   module _ (n : ℕ) where
     completed : (r : Called) (z : State) → Follows z r → z.store.anchor.depth ≡ n → FilledIn key n r
         → Complete (cmac_of key) z.store (step_of r)
@@ -199,6 +211,8 @@ module _ (anchor card made left : List ℕ) (formatted : Formatted anchor card 0
         demand = demand3 k n is-card.deep is-card.shallow card is-card.full (steps rs) complete;
         unforged = unforged k n is-card.deep is-card.shallow card is-card.full (steps rs) complete;
         afresh = afresh k n is-card.deep is-card.shallow card is-card.full (steps rs) complete;
+        gave = λ p given q qs e. gives k given q qs (after (cmac_of k) (begin anchor card) (steps p.before))
+            (subst (Follows k (after (cmac_of k) (begin anchor card) (steps p.before))) e (followed complete p));
         told = λ p.
             let f = followed complete p in
             told_here k p.item (after (cmac_of k) (begin anchor card) (steps p.before)) f.held f.knows f.handed f.met;

@@ -1,9 +1,9 @@
 -- The functions for C as they ran: what each was given and what it answered and left, as its contract has it.
-use Rattle.std.specs.Prelude.{◌≡◌, cond, List, [], ◌∷◌, map, ℕ, eqb, length}
+use Rattle.std.specs.Prelude.{◌≡◌, cond, List, [], ◌∷◌, ◌++◌, map, ℕ, eqb, length, drop}
 use Rattle.cmac.specs.Cmac.{cmac_of}
 use Rattle.tree.specs.Calls.{Call, wipe, outcome}
 use Rattle.tree.specs.declared.Anchor.{Anchor}
-use Rattle.plan.specs.Split.{message_room}
+use Rattle.plan.specs.Split.{planned, joined, message_room}
 use Rattle.plan.specs.Puts.{PutStep}
 use Rattle.replay.specs.Places.{Place}
 use Rattle.replay.specs.Run
@@ -116,7 +116,7 @@ abbrev pub NonePut : List PutCalled → Type 0
 NonePut [] = Unit {0}
 NonePut (q ∷ qs) = (q.code ≡ 0 → ⊥) × NonePut qs
 
--- A plan that was refused leaves whatever bytes its buffer had, which may be those of some other plan: no tag is put with them.
+-- A plan that was refused leaves whatever bytes its buffer had, which may be those of some other plan: no put with them answered 0.
 abbrev pub Meets : Called → Type 0
 Meets (call given card c back) = Says given back.anchor card c back.code back.card back.lent
 Meets (split given p qs) = PlanMeets given p × PutsMeet given p.plan qs × ((p.code ≡ 0 → ⊥) → NonePut qs)
@@ -181,7 +181,8 @@ abbrev pub begin : List ℕ → List ℕ → State
 begin anchor card = start (cmac_of (anchor_of anchor).key) (anchor_of anchor).key (anchor_of anchor).depth card
 
 -- Of the calls that ran after an accepted pat_format, every split write among them complete: demand 3 holds of their list, what is tagged
--- is as stated, a wipe stands where the format did, and each step answered and left what the list has at its place.
+-- is as stated, a wipe stands where the format did, each plan handed out its messages, and each step answered and left what the list has at
+-- its place.
 pub record Demand3Of (anchor card made left : List ℕ) (rs : List Called) : Type 0 where
   pub begun : Stands made (begin anchor card).store.anchor
   pub formatted : left ≡ (begin anchor card).store.left
@@ -191,6 +192,11 @@ pub record Demand3Of (anchor card made left : List ℕ) (rs : List Called) : Typ
       → Accepted (cmac_of (anchor_of anchor).key) (known (cmac_of (anchor_of anchor).key) (begin anchor card) p).store p.item
       → call_of p.item ≡ wipe
       → Afresh (cmac_of (anchor_of anchor).key) (begin anchor card) (anchor_of anchor).depth p
+  -- the bytes that a plan handed out begin with its messages, and are behind them what the buffer had
+  pub gave : (p : Place rs) (given : List ℕ) (q : PlanCalled) (qs : List PutCalled) → p.item ≡ split given q qs →
+      let F = cmac_of (anchor_of anchor).key in
+      let ms = joined (planned F (after F (begin anchor card) (steps p.before)).store.anchor q.card q.index q.block q.ranges).messages in
+      q.messages ≡ ms ++ drop (length ms) q.buffer
   pub told : (p : Place rs)
       → let b = back_of p.item in
       Codes (result (cmac_of (anchor_of anchor).key) (after (cmac_of (anchor_of anchor).key) (begin anchor card) (steps p.before)).store

@@ -2,9 +2,11 @@
 use Rattle.std.specs.Prelude.{ℕ, ◌+◌, ◌*◌, ◌^◌, ◌<◌, ◌≡◌, Bool, true, cond, ◌&&◌, ◌⊎◌, eqb, length, take, drop}
 use mathlib.Core.List.{List, [], ◌∷◌, ◌++◌, Memᴰ}
 use Rattle.cmac.specs.Cmac.{cmac_of}
+use Rattle.std.proofs.Math.Option.{none}
 use Rattle.tree.specs.Layout.{size, label}
 use Rattle.tree.specs.Calls
-use Rattle.tree.specs.Calls.{Call, is_write, renews}
+use Rattle.tree.specs.Limits.{first_failing}
+use Rattle.tree.specs.Calls.{Call, limits, is_write, renews}
 use Rattle.plan.specs.Places.{plan_nodes}
 use Rattle.plan.specs.Orders.{Rearranged}
 use Rattle.replay.specs.Array.{Told, read, write, check, wipe, Array, zeroed, block_at, moved}
@@ -12,7 +14,7 @@ use Rattle.replay.specs.Places.{Place, Behind}
 use Rattle.replay.specs.Run.{card_of, call_of, told}
 use Rattle.replay.specs.Claim.{Forgery}
 use Rattle.host_bytes.specs.Host.{anchor_bytes, anchor_of, host_call, Hosts}
-use Rattle.host_replay.specs.Called.{Held, anchor_in, Back, PlanCalled, PutCalled, Called, call, split, last_anchor, last_card, back_of}
+use Rattle.host_replay.specs.Called.{Held, anchor_in, Back, PlanCalled, PutCalled, Called, call, split, last_anchor, last_card, given_to, back_of}
 use Rattle.host_replay.specs.Called.{step_of, steps, PutsMeet, Meets, begin}
 
 -- the call, or the plan of a split write, answered 0
@@ -151,6 +153,10 @@ pub record PlainDemand (anchor card left : List ℕ) (rs : List Called) : Type 0
   -- no tag is wrong on a card as last left: no answer is 8 plus 256 times a node
   pub quiet : Each rs (λ before r.
       WritesUntouched left before → shown r ≡ left_by left before → (u : ℕ) → (back_of r).code ≡ 8 + 256 * u → ⊥)
+  -- and so a call is accepted where none of its limits fails
+  pub accepted : Each rs (λ before r.
+      WritesUntouched left before → shown r ≡ left_by left before
+      → first_failing (limits (anchor_in (given_to r)) (shown r) (called r)) ≡ none → (back_of r).code ≡ 0)
   -- the root nonce that a call leaves is the depth times the writes and wipes that answered 0
   pub root : Each rs (λ before r. (anchor_in (back_of r).anchor).root.0 ≡ (renewals_by before + counted r) * (anchor_of anchor).depth)
   -- a wipe that answered 0 leaves the array of after a format

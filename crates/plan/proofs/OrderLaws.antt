@@ -154,6 +154,9 @@ module _ (F : List ℕ → List ℕ) (F16 : (m : List ℕ) → length (F m) ≡ 
     abbrev M : ℕ → List ℕ
     M u = F (message_for u o.messages)
 
+    in-order : map (λ (x : PutStep). x.node) puts ≡ us
+    in-order = turns-nodes M us (begun o)
+
     waiting : Waiting a i (t + n) ok.inside (begun o) us
     waiting =
         record {
@@ -191,7 +194,7 @@ module _ (F : List ℕ → List ℕ) (F16 : (m : List ℕ) → length (F m) ≡ 
     like-write =
         let d = outcome-done F a card (write i block ranges) whole in
         record {
-          in_order = turns-nodes M us (begun o);
+          in_order = in-order;
           each = turns-placed;
           card-is = filled-card puts turns-fill turns-right turns-untouched ∙ sym (ap (λ (q : Outcome). q.card) d);
           anchor-is = filled-anchor puts turns-fill ∙ sym (ap (λ (q : Outcome). q.anchor) d);

@@ -28,7 +28,6 @@ use Rattle.calls.proofs.wipe.Reads as wipe-code
 use Rattle.split.proofs.plan.Reads as plan-code
 use Rattle.split.proofs.put_tag.Reads as put-code
 use Rattle.replay.specs.Places.{Place}
-use Rattle.replay.specs.Run
 use Rattle.replay.specs.Run.{State, finished, split_outcome, start, result, next, after}
 use Rattle.replay.specs.Claim.{AllComplete}
 use Rattle.replay.specs.Ran.{PlanRan, PutRan, Ran, call, split, step_of, steps, last_anchor, last_card, back_of, Tells, PutsMeet}

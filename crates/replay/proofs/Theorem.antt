@@ -16,7 +16,7 @@ use Rattle.tree.specs.Labels.{message, labels}
 use Rattle.tree.specs.Card.{blanked}
 use Rattle.tree.specs.Calls.{Call, wipe, tagged, format_card, format}
 use Rattle.tree.specs.Answer.{Answer}
-use Rattle.tree.proofs.LimitLaws.{Passes}
+use Rattle.tree.proofs.LimitLaws.{Passes, passed}
 use Rattle.tree.proofs.WriteLaws.{clean-blanked}
 use Rattle.tree.proofs.CallLaws.{wipe-accepts, outcome-answer, format-accept}
 use Rattle.plan.specs.Puts.{PutStep}
@@ -151,6 +151,7 @@ module _ (F : List ℕ → List ℕ) (F16 : (m : List ℕ) → length (F m) ≡ 
               (by-calls F F16 xs begun complete m h);
           checked = λ p f u. checked-here F F16 begun good_start complete p f u;
           agrees = λ p f u. agrees-here F F16 begun good_start complete p f u;
+          accepts = λ p f u l. accepts-any p f u (passed (known F begun p).store.anchor (card_of p.item) (call_of p.item) l);
           unforged = none-forged F F16 xs begun complete good_start;
           counted = counted-any;
           agreed = honest-agrees F F16 xs begun complete good_start;

@@ -1,10 +1,12 @@
 -- What is tagged, both ways, so that a forgery is no empty word: a card that nobody touched shows tagged messages alone.
 use Rattle.std.specs.Prelude.{ℕ, ◌+◌, ◌/◌, ◌^◌, ◌<◌, ◌≡◌, true, ◌⊎◌, length}
 use mathlib.Core.List.{List, [], ◌∷◌, ◌++◌, Memᴰ}
+use Rattle.std.proofs.Math.Option.{none}
 use Rattle.tree.specs.Layout.{IsNode, card_length}
 use Rattle.tree.specs.Nodes.{path_node}
 use Rattle.tree.specs.Labels.{message, blank_labels, written_labels}
-use Rattle.tree.specs.Calls.{Call, read, write, check, wipe, is_write, tagged}
+use Rattle.tree.specs.Limits.{first_failing}
+use Rattle.tree.specs.Calls.{Call, read, write, check, wipe, limits, is_write, tagged}
 use Rattle.tree.specs.declared.Anchor.{Anchor}
 use Rattle.tree.specs.Answer.{Whole}
 use Rattle.replay.specs.Places.{Place}
@@ -66,6 +68,10 @@ module _ (F : List ℕ → List ℕ) (s₀ : State) where
         → Accepted F (known F s₀ p).store p.item → ChecksTagged (known F s₀ p) p.item
     pub agrees : (p : Place xs) → Faithful F s₀ p.before → GivenLeft (known F s₀ p).store p.item
         → AgreesHere F (known F s₀ p) p.item
+    -- and it is accepted where none of its limits fails
+    pub accepts : (p : Place xs) → Faithful F s₀ p.before → GivenLeft (known F s₀ p).store p.item
+        → first_failing (limits (known F s₀ p).store.anchor (card_of p.item) (call_of p.item)) ≡ none
+        → Accepted F (known F s₀ p).store p.item
     -- where every accepted call but a wipe had an untouched card there is no forgery, and the agreement holds outright
     pub unforged : Honest xs → Forgery F s₀ xs → ⊥
     pub agreed : Honest xs → Agreement F s₀ xs
@@ -81,7 +87,8 @@ pub record Afresh (F : List ℕ → List ℕ) (s₀ : State) (n : ℕ) {xs : Lis
   pub emptied : (next F (known F s₀ p) p.item).store.array ≡ zeroed (2 ^ n)
   pub demand : Demand3 F (next F (known F s₀ p) p.item) p.behind
 
--- the put x, given the anchor and the plan as last returned, is accepted
+-- The put x, given the anchor and the plan as last returned, is accepted. It is `Placed`, said again here so that a reader has all that is
+-- asked below, and so that none of it moves where `Placed` does.
 abbrev pub Accepts : Going → PutStep → Type 0
 Accepts g x = (put g.anchor g.plan x.card x.node x.tag).answer ≡ Whole
 
