@@ -8,6 +8,7 @@ use host_bytes::{REFUSED_LENGTH, anchor, code, plan_bytes};
 use tree::{BlockIndex, Error, Node};
 
 // Plans a write whose tags come singly: puts its labels on the card, its ranges, the plan and the messages into their buffers.
+#[tactic(auto, unfolding(host_bytes::specs::Split::host_plan), using(host_bytes::proofs::Sizes::messages))]
 pub fn plan(
     anchor: &[u8],
     card: &mut [u8],
