@@ -31,7 +31,7 @@ pub extern "C" fn pat_format(anchor: &mut [u8], card: &mut [u8]) -> u64
 
 // Reads a block into the buffer.
 #[unsafe(no_mangle)]
-#[tactic(auto, unfolding(host_bytes::specs::Host::host_call), using(host_bytes::proofs::Sizes::call))]
+#[tactic(auto, unfolding(host_bytes::specs::Host::host_call))]
 pub extern "C" fn pat_read(anchor: &[u8], card: &[u8], index: u64, buffer: &mut [u8]) -> u64
     ensures { Hosts (host_call anchor.now card.now (read index buffer.old))
         result anchor.now card.now buffer.new }
@@ -45,7 +45,7 @@ pub extern "C" fn pat_read(anchor: &[u8], card: &[u8], index: u64, buffer: &mut 
 
 // Writes a block, and puts the new root nonce into the anchor.
 #[unsafe(no_mangle)]
-#[tactic(auto, unfolding(host_bytes::specs::Host::host_call), using(host_bytes::proofs::Sizes::call))]
+#[tactic(auto, unfolding(host_bytes::specs::Host::host_call))]
 pub extern "C" fn pat_write(
     anchor: &mut [u8],
     card: &mut [u8],
@@ -68,7 +68,7 @@ pub extern "C" fn pat_write(
 
 // Checks every tag of the card.
 #[unsafe(no_mangle)]
-#[tactic(auto, unfolding(host_bytes::specs::Host::host_call), using(host_bytes::proofs::Sizes::call))]
+#[tactic(auto, unfolding(host_bytes::specs::Host::host_call))]
 pub extern "C" fn pat_check(anchor: &[u8], card: &[u8]) -> u64
     ensures { Hosts (host_call anchor.now card.now check) result anchor.now card.now [] }
 {
@@ -81,7 +81,7 @@ pub extern "C" fn pat_check(anchor: &[u8], card: &[u8]) -> u64
 
 // Empties the card under the same key, and puts the new root nonce into the anchor.
 #[unsafe(no_mangle)]
-#[tactic(auto, unfolding(host_bytes::specs::Host::host_call), using(host_bytes::proofs::Sizes::call))]
+#[tactic(auto, unfolding(host_bytes::specs::Host::host_call))]
 pub extern "C" fn pat_wipe(anchor: &mut [u8], card: &mut [u8]) -> u64
     ensures { Hosts (host_call anchor.old card.old wipe) result anchor.new card.new [] }
 {
