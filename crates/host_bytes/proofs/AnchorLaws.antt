@@ -220,6 +220,9 @@ round_trip s card =
     record {
       format-stored = λ e left g. format-stands s card e left g;
       call-stored = λ long c code e left lent g. call-stands s long card c code e left lent g;
+      format-told = λ long code e left g.
+          let t = subst (λ (h : Host). Hosts h code e left []) (host-format s card long) g in (t.coded, t.left);
+      call-told = λ long c code e left lent g. call-codes s long card c code e left lent g;
       format-refused = λ code e left g d. format-refused s card code e left g d;
       call-refused = λ c code e left lent g d. call-refused s card c code e left lent g d;
     }

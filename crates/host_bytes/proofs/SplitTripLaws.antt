@@ -232,6 +232,11 @@ split-trip s card b =
       plan-stored = λ i block ranges buffer made left filled gave g.
           plan-stored s card b i block ranges buffer 0 made left filled gave g refl;
       put-stored = λ long p stands u tag t16 code e made left g. put-stored s card b long p stands u tag t16 code e made left g;
+      plan-told = λ long plan-long i block ranges buffer room code made left filled gave g.
+          let t = plan-told s card b i block ranges buffer code made left filled gave long plan-long room g in
+          (t.coded, t.left, t.filled, t.gave);
+      put-told = λ long p stands u tag t16 code e made left g.
+          let t = put-told s card b long p stands u tag t16 code e made left g in (t.coded, t.left);
       plan-refused = λ i block ranges buffer code made left filled gave g d.
           plan-refused s card b i block ranges buffer code made left filled gave g d;
       put_refused = λ u tag code e made left g d. put_refused s card b u tag code e made left g d;

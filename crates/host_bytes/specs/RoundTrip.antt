@@ -1,11 +1,12 @@
--- From one call for C to the next: the bytes that a call leaves of the anchor, and of a plan, are those that the next one reads it from.
-use Rattle.std.specs.Prelude.{ℕ, ◌^◌, ◌<◌, ◌≡◌, List, [], length}
+-- From one call for C to the next: the bytes that a call leaves of the anchor, and of a plan, are those that the next one reads it from. And
+-- what a call for C answers and leaves of the rest is what the call does, on every input.
+use Rattle.std.specs.Prelude.{ℕ, ◌^◌, ◌<◌, ◌≡◌, List, [], ◌++◌, length, drop}
 use Rattle.cmac.specs.Cmac.{cmac_of}
 use Rattle.tree.specs.Calls.{Call, lent_to, outcome, format}
 use Rattle.tree.specs.declared.Anchor.{Anchor}
-use Rattle.plan.specs.Split.{planned, put}
+use Rattle.plan.specs.Split.{planned, joined, message_room, put}
 use Rattle.plan.specs.declared.Plan.{Plan}
-use Rattle.host_bytes.specs.Host.{anchor_bytes, anchor_of, host_call, host_format, Hosts}
+use Rattle.host_bytes.specs.Host.{anchor_bytes, anchor_of, code_of, host_call, host_format, Hosts, Codes}
 use Rattle.host_bytes.specs.Split.{plan_bytes, plan_of, tag_bytes, host_plan, HostsPlan, host_put, HostsPut}
 
 -- bytes of the right number that stand for the anchor a
@@ -20,6 +21,12 @@ pub record RoundTrip (s card : List ℕ) : Type 0 where
       → Stands e (format (cmac_of (anchor_of s).key) (anchor_of s).key (anchor_of s).depth card).anchor
   pub call-stored : length s ≡ anchor_bytes → (c : Call) (code : ℕ) (e left lent : List ℕ) → Hosts (host_call s card c) code e left lent
       → Stands e (outcome (cmac_of (anchor_of s).key) (anchor_of s) card c).anchor
+  -- the answer is the call's as one number, and the card and the lent buffer are as the call leaves them
+  pub format-told : length s ≡ anchor_bytes → (code : ℕ) (e left : List ℕ) → Hosts (host_format s card) code e left [] →
+      let o = format (cmac_of (anchor_of s).key) (anchor_of s).key (anchor_of s).depth card in
+      (code ≡ code_of o.answer) × (left ≡ o.card)
+  pub call-told : length s ≡ anchor_bytes → (c : Call) (code : ℕ) (e left lent : List ℕ) → Hosts (host_call s card c) code e left lent
+      → Codes (outcome (cmac_of (anchor_of s).key) (anchor_of s) card c) code (anchor_of e) left lent
   -- a refused one leaves every byte as it was, whatever the anchor's length
   pub format-refused : (code : ℕ) (e left : List ℕ) → Hosts (host_format s card) code e left [] → (code ≡ 0 → ⊥) → (e ≡ s) × (left ≡ card)
   pub call-refused : (c : Call) (code : ℕ) (e left lent : List ℕ) → Hosts (host_call s card c) code e left lent → (code ≡ 0 → ⊥)
@@ -42,6 +49,16 @@ pub record SplitTrip (s card b : List ℕ) : Type 0 where
   pub put-stored : length s ≡ anchor_bytes → (p : Plan) → StandsPlan b p → (u : ℕ) (tag : List ℕ) → length tag ≡ tag_bytes
       → (code : ℕ) (e made left : List ℕ) → HostsPut (host_put s b card u tag) code e made left
       → Stands e (put (anchor_of s) p card u tag).anchor × StandsPlan made (put (anchor_of s) p card u tag).plan
+  -- the answers are those of the plan and of the put as one number, and card, ranges and messages are as these leave them, the bytes behind
+  -- the messages as they were
+  pub plan-told : length s ≡ anchor_bytes → length b ≡ plan_bytes → (i : ℕ) (block ranges buffer : List ℕ) → length buffer ≡ message_room
+      → (code : ℕ) (made left filled gave : List ℕ) → HostsPlan (host_plan s card i block ranges b buffer) code made left filled gave →
+      let o = planned (cmac_of (anchor_of s).key) (anchor_of s) card i block ranges in
+      (code ≡ code_of o.call.answer) × (left ≡ o.call.card) × (filled ≡ o.call.lent)
+      × (gave ≡ joined o.messages ++ drop (length (joined o.messages)) buffer)
+  pub put-told : length s ≡ anchor_bytes → (p : Plan) → StandsPlan b p → (u : ℕ) (tag : List ℕ) → length tag ≡ tag_bytes
+      → (code : ℕ) (e made left : List ℕ) → HostsPut (host_put s b card u tag) code e made left
+      → (code ≡ code_of (put (anchor_of s) p card u tag).answer) × (left ≡ (put (anchor_of s) p card u tag).card)
   -- a refused one leaves every byte as it was, whatever the lengths
   pub plan-refused : (i : ℕ) (block ranges buffer : List ℕ) (code : ℕ) (made left filled gave : List ℕ)
       → HostsPlan (host_plan s card i block ranges b buffer) code made left filled gave → (code ≡ 0 → ⊥)

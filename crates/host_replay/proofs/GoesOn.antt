@@ -55,4 +55,6 @@ plain-goes-on left =
           at_more (λ before q. FilledIn (anchor_of anchor).key (anchor_of anchor).depth q) rs r f h;
       split-goes-on = split-goes-on;
       turns-run = turns-run;
+      plan-meets = λ s p room buffer k. record { plan-room = room; message-room = buffer; says = k };
+      put-meets = λ s b q long k. (long, k, tt);
     }

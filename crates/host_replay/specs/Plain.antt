@@ -8,14 +8,16 @@ use Rattle.tree.specs.Calls
 use Rattle.tree.specs.Limits.{first_failing}
 use Rattle.tree.specs.Calls.{Call, limits, is_write, renews}
 use Rattle.plan.specs.Places.{plan_nodes}
+use Rattle.plan.specs.Split.{message_room}
 use Rattle.plan.specs.Orders.{Rearranged}
 use Rattle.replay.specs.Array.{Told, read, write, check, wipe, Array, zeroed, block_at, moved}
 use Rattle.replay.specs.Places.{Place, Behind}
 use Rattle.replay.specs.Run.{card_of, call_of, told}
 use Rattle.replay.specs.Claim.{Forgery}
 use Rattle.host_bytes.specs.Host.{anchor_bytes, anchor_of, host_call, Hosts}
+use Rattle.host_bytes.specs.Split.{plan_bytes, tag_bytes, host_plan, HostsPlan, host_put, HostsPut}
 use Rattle.host_replay.specs.Called.{Held, anchor_in, Back, PlanCalled, PutCalled, Called, call, split, last_anchor, last_card, given_to, back_of}
-use Rattle.host_replay.specs.Called.{step_of, steps, PutsMeet, Meets, begin}
+use Rattle.host_replay.specs.Called.{step_of, steps, PlanMeets, PutsMeet, Meets, begin}
 
 -- the call, or the plan of a split write, answered 0
 abbrev pub whole : Called → Bool
@@ -194,3 +196,8 @@ pub record PlainGoesOn (left : List ℕ) : Type 0 where
   pub split-goes-on : (s : List ℕ) → length s ≡ anchor_bytes → (p : PlanCalled) (qs : List PutCalled) → Meets (split s p qs) → p.code ≡ 0
       → SplitGoesOn s p qs
   pub turns-run : (s : List ℕ) (p : PlanCalled) (us : List ℕ) → RunsInTurn s p us
+  -- whatever bytes the buffers of a plan had, and whatever plan, card, node and tag a put was given, it may stand in a history
+  pub plan-meets : (s : List ℕ) (p : PlanCalled) → length p.room ≡ plan_bytes → length p.buffer ≡ message_room
+      → HostsPlan (host_plan s p.card p.index p.block p.ranges p.room p.buffer) p.code p.plan p.left p.lent p.messages → PlanMeets s p
+  pub put-meets : (s b : List ℕ) (q : PutCalled) → length q.step.tag ≡ tag_bytes
+      → HostsPut (host_put s b q.step.card q.step.node q.step.tag) q.code q.anchor q.plan q.card → PutsMeet s b (q ∷ [])
