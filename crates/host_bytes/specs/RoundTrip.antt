@@ -1,5 +1,5 @@
--- From one call for C to the next: the bytes that a call leaves of the anchor, and of a plan, are those that the next one reads it from. And
--- what a call for C answers and leaves of the rest is what the call does, on every input.
+-- From one call for C to the next: the bytes that a call leaves of the anchor, and of a plan, are those that the next one reads it from.
+-- And what a call for C answers and leaves of the rest is what the call does, on every input.
 use Rattle.std.specs.Prelude.{ℕ, ◌^◌, ◌<◌, ◌≡◌, List, [], ◌++◌, length, drop}
 use Rattle.cmac.specs.Cmac.{cmac_of}
 use Rattle.tree.specs.Calls.{Call, lent_to, outcome, format}
