@@ -11,7 +11,7 @@
 #include <string.h>
 #include <time.h>
 
-enum { ENGINES = 4, AES_BLOCK = 16, ROUNDS = 10, MOST_JOBS = 2 * PAT_MAX_DEPTH };
+enum { ENGINES = 4, AES_BLOCK = 16, ROUNDS = 10, MOST_JOBS = 4 * PAT_MAX_DEPTH };
 
 // What an engine has in hardware: AES-128 of FIPS 197 and the CMAC of RFC 4493, under one key.
 struct cipher {
@@ -129,18 +129,18 @@ static bool is_right(void) {
     return memcmp(two, tags[0], sizeof two) == 0 && memcmp(three, tags[1], sizeof three) == 0;
 }
 
-// A message on its way to an engine, and its tag on the way back. Without a cipher: the engine
-// stops.
+// A message on its way to an engine, and its tag on the way back, which is known by its plan and
+// its node. Without a cipher: the engine stops.
 struct job {
     const struct cipher *cipher;
     const uint8_t *message;
     size_t length;
-    uint64_t node;
+    uint64_t plan, node;
     uint8_t tag[PAT_TAG_BYTES];
     unsigned aes_calls;
 };
 
-// One write at a time has no more jobs than fit.
+// It has room for the jobs of a plan and for as many that come late.
 struct queue {
     pthread_mutex_t lock;
     pthread_cond_t filled;
@@ -156,6 +156,10 @@ static pthread_t engines[ENGINES];
 
 static void give(struct queue *queue, const struct job *job) {
     pthread_mutex_lock(&queue->lock);
+    if (queue->count == MOST_JOBS) {
+        fputs("engines: more jobs than a queue has room for\n", stderr);
+        abort();
+    }
     queue->jobs[(queue->first + queue->count++) % MOST_JOBS] = *job;
     pthread_cond_signal(&queue->filled);
     pthread_mutex_unlock(&queue->lock);
@@ -213,11 +217,13 @@ static void switch_off(void) {
         pthread_join(engines[k], NULL);
 }
 
-// What the host has: a card in memory, its anchor, and the ranges of the last write.
+// What the host has: a card in memory, its anchor, the ranges of the last write, and how many plans
+// it made.
 struct store {
     uint8_t anchor[PAT_ANCHOR_BYTES], ranges[PAT_MAX_RANGE_BYTES];
     uint8_t *card;
     size_t card_len;
+    uint64_t plans;
 };
 
 // What the engines did for one write.
@@ -240,7 +246,8 @@ static void must(uint64_t answer, const char *what, uint64_t number) {
 }
 
 // The split write. What it leaves in the store is to be stored as after pat_write: the anchor, and
-// then the ranges.
+// then the ranges. It waits for every tag: a host whose engines can fail waits so long and no
+// longer, and then goes on with the anchor and the card of before.
 static struct work write_by_engines(struct store *s, const struct cipher *cipher, uint64_t index,
                                     const uint8_t block[PAT_BLOCK_BYTES]) {
     uint8_t plan[PAT_PLAN_BYTES], messages[PAT_MESSAGES_BYTES];
@@ -249,16 +256,22 @@ static struct work write_by_engines(struct store *s, const struct cipher *cipher
     must(pat_plan(s->anchor, sizeof s->anchor, s->card, s->card_len, index, block, PAT_BLOCK_BYTES,
                   s->ranges, sizeof s->ranges, plan, sizeof plan, messages, sizeof messages),
          "the plan of block", index);
+    s->plans++;
     for (unsigned k = 0; k < PAT_MESSAGES(depth); k++) {
         struct pat_message m = pat_message(depth, index, k);
-        struct job job = {cipher, messages + m.start, m.length, m.node, {0}, 0};
+        struct job job = {cipher, messages + m.start, m.length, s->plans, m.node, {0}, 0};
         give(&messages_out, &job);
     }
-    for (unsigned k = 0; k < PAT_MESSAGES(depth); k++) {
+    for (unsigned put = 0; put < PAT_MESSAGES(depth);) {
         struct job job = take(&tags_back);
-        must(pat_put_tag(s->anchor, sizeof s->anchor, plan, sizeof plan, s->card, s->card_len,
-                         job.node, job.tag, sizeof job.tag),
-             "the tag of node", job.node);
+        if (job.plan != s->plans)
+            continue; // late: its plan was given up
+        uint64_t answer = pat_put_tag(s->anchor, sizeof s->anchor, plan, sizeof plan, s->card,
+                                      s->card_len, job.node, job.tag, sizeof job.tag);
+        if (answer == PAT_REFUSED_NOT_AWAITED)
+            continue; // an engine answered twice
+        must(answer, "the tag of node", job.node);
+        put++;
         work.aes_calls += job.aes_calls;
         work.out_of_order = work.out_of_order || job.node < last;
         last = job.node;
@@ -270,7 +283,7 @@ static void write_rounds(void) {
     enum { DEPTH = 3 };
     static const uint64_t blocks[] = {5, 2, 5};
     static uint8_t card[PAT_CARD_BYTES(DEPTH)];
-    struct store s = {"sixteen byte key", {0}, card, sizeof card}; // a product draws its key
+    struct store s = {"sixteen byte key", {0}, card, sizeof card, 0}; // a product draws its key
     struct cipher cipher = cipher_of(s.anchor);
     uint8_t block[PAT_BLOCK_BYTES] = "van 7: round 12", buffer[PAT_BLOCK_BYTES];
     pat_put_number(s.anchor + PAT_ANCHOR_DEPTH, DEPTH);

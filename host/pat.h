@@ -339,7 +339,7 @@ uint64_t pat_wipe(uint8_t *anchor, size_t anchor_len, uint8_t *card, size_t card
 // Plan and messages are trusted as the anchor is: whoever can alter them chooses T, or what is
 // tagged. Keep them where nobody else can.
 //
-// Until the last put the card is no card of its anchor: that still has the old T, and tags of
+// Until the last put the card does not go with its anchor: that still has the old T, and tags of
 // whatever is new along the path are wrong under it. So nothing of anchor, plan or card is stored
 // before. Where the last put never comes, the plan is given up: it is thrown away with its tags,
 // those too that are still to come. Put under it after a later write, they could set T back; put
@@ -363,8 +363,8 @@ uint64_t pat_plan(const uint8_t *anchor, size_t anchor_len, uint8_t *card, size_
                   size_t messages_len) PAT_CALL;
 
 // Puts the tag of a node on the card and notes it in the plan. If now all PAT_MESSAGES(depth) tags
-// are put, the anchor's T becomes the plan's; else the anchor stays as it was, as does every other
-// byte.
+// are put, the anchor's T becomes the plan's; else the anchor stays as it was. Every other byte,
+// and every other bit of the plan, stays.
 //
 // The tag is not verified. A wrong one is found, and refused with 8, by the next read of a block
 // under its node, by a write or plan that checks that node, and by a check. It stays: a second tag
@@ -372,8 +372,9 @@ uint64_t pat_plan(const uint8_t *anchor, size_t anchor_len, uint8_t *card, size_
 // before. After the last put, and before it stores anything, it makes a pat_read of the block and,
 // on a copy of the card, a pat_plan of the same block, which it throws away: together these check
 // every tag that was put, with 6 * depth + 6 AES calls. If one is refused with 8 it goes back to
-// what it kept, and gives the plan up. A pat_check costs more, and is refused for damage elsewhere
-// too, which neither write nor plan looks at.
+// what it kept, and gives the plan up. If the plan is refused with 7, since the write took the last
+// T, it has checked nothing, and a pat_check does. That costs more, and is refused for damage
+// elsewhere too, which neither write nor plan looks at.
 //
 // It has an answer for a plan of any bytes and looks at no byte of the card. T becomes whatever
 // such a plan says.

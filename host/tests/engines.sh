@@ -31,6 +31,5 @@ ends() {
     [ "$(cat "$room/out")" = "engines: $2" ] || { cat "$room/out" >&2; fail "$1: it is not said"; }
 }
 ends refused 'the plan of block 0 is refused, 8: a tag on the card is wrong, that of node 2'
-ends strayed 'the tag of node 1 is refused, 9: the plan awaits no tag of that node'
 
 "$comparing" "$writes" 1

@@ -59,8 +59,8 @@ static uint64_t answer_of(enum call call, const struct store *s, uint64_t index)
     return o.answer;
 }
 
-// A split write with the tag of one node wrong: whoever checks that node finds it, and nobody else.
-static void try_wrong(const struct store *s, uint64_t index, uint64_t wrong) {
+// A split write with the tag of one node wrong.
+static struct split split_wrong(const struct store *s, uint64_t index, uint64_t wrong) {
     uint64_t nodes[MOST_MESSAGES];
     struct store end = written(s, index);
     struct split split = must_plan(s, index, round_bytes);
@@ -71,6 +71,13 @@ static void try_wrong(const struct store *s, uint64_t index, uint64_t wrong) {
         tag[k % PAT_TAG_BYTES] ^= nodes[k] == wrong ? 0x20 : 0;
         must_put(&split, nodes[k], tag);
     }
+    drop_store(&end);
+    return split;
+}
+
+// Whoever checks that node finds it, and nobody else.
+static void try_wrong(const struct store *s, uint64_t index, uint64_t wrong) {
+    struct split split = split_wrong(s, index, wrong);
     uint64_t due = 8 + 256 * wrong;
     expect(answer_of(READ, &split.store, index) == due ||
                answer_of(PLAN, &split.store, index) == due,
@@ -89,7 +96,22 @@ static void try_wrong(const struct store *s, uint64_t index, uint64_t wrong) {
                "a write and a plan of a block whose path has it or its sibling");
     }
     drop_split(&split);
-    drop_store(&end);
+}
+
+// After the write that takes the last T another plan is refused with 7 and checks nothing: of the
+// tag of a node beside the path, a check alone finds that it is wrong.
+static void try_spent(unsigned depth) {
+    struct store s = make_store(depth);
+    uint64_t last = UINT64_MAX - UINT64_MAX % depth;
+    pat_put_number(s.anchor + PAT_ANCHOR_ROOT, last - 2 * (uint64_t)depth);
+    must_wipe(&s);
+    struct split split = split_wrong(&s, 0, 3);
+    expect(pat_get_number(split.store.anchor + PAT_ANCHOR_ROOT) == last, "the last T");
+    expect(answer_of(READ, &split.store, 0) == 0, "a read of the block does not look at node 3");
+    expect(answer_of(PLAN, &split.store, 0) == PAT_REFUSED_SPENT, "no T is left for a plan");
+    expect(answer_of(CHECK, &split.store, 0) == 8 + 256 * 3, "a check finds the tag of node 3");
+    drop_split(&split);
+    drop_store(&s);
 }
 
 // A plan with only some of its tags: the block is refused under the anchor, which has not moved. On
@@ -175,6 +197,7 @@ void test_orders(void) {
             if (depth > 1)
                 try_damaged(&s, index);
         }
+        try_spent(depth);
         drop_store(&s);
     }
 }

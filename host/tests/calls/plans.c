@@ -98,6 +98,7 @@ static void put_shuffled(struct split *split, const struct store *written, uint6
         nodes[k] = nodes[left - 1];
         nodes[left - 1] = node;
         must_refuse(split, nodes[left - 1 + draw(count - left + 1)]);
+        must_refuse_same(split, node);
     }
 }
 

@@ -104,7 +104,8 @@ static void try_absent(unsigned depth) {
 
 // The put of a last tag sets T to what the plan says, whichever place it is, whatever the bits
 // above and whatever T was, the last one that is a multiple of the depth too. The put of a last but
-// one leaves it, and with all places filled no tag is awaited.
+// one leaves it, and with all places filled no tag is awaited. A tag that the card has already is a
+// tag like any other.
 static void try_last(unsigned depth) {
     static const uint64_t roots[] = {0, 1, 17, (uint64_t)1 << 63, UINT64_MAX - 1, UINT64_MAX};
     struct store s = any_store(depth);
@@ -113,20 +114,24 @@ static void try_last(unsigned depth) {
     for (size_t k = 0; k < places; k += stride(depth))
         for (size_t j = 0; j < sizeof roots / sizeof *roots; j++) {
             uint64_t above = j % 2 == 0 ? 0 : ~all, bit = (uint64_t)1 << k;
-            uint8_t tag[PAT_TAG_BYTES] = {(uint8_t)j, (uint8_t)k};
+            uint8_t tag[PAT_TAG_BYTES] = {(uint8_t)j, (uint8_t)k}, own[PAT_TAG_BYTES];
             uint64_t spent = UINT64_MAX - UINT64_MAX % depth;
             pat_put_number(s.anchor + PAT_ANCHOR_ROOT, j < 3 ? spent : 3 * (uint64_t)depth);
             struct split last = make_split(&s, index, roots[j], (all - bit) | above);
+            struct split same = make_split(&s, index, roots[j], (all - bit) | above);
             struct split full = make_split(&s, index, roots[j], all | above);
             uint64_t other = (uint64_t)1 << (k + places - 1) % places;
             struct split two = make_split(&s, index, roots[j], (all - bit - other) | above);
+            memcpy(own, tag_of(&same.store, nodes[k]), sizeof own);
             must_put(&two, nodes[k], tag);
             must_put(&last, nodes[k], tag);
+            must_put(&same, nodes[k], own);
             expect(pat_get_number(last.store.anchor + PAT_ANCHOR_ROOT) == roots[j],
                    "depth %u: T is the plan's", depth);
             must_refuse(&full, nodes[k]);
             drop_split(&two);
             drop_split(&last);
+            drop_split(&same);
             drop_split(&full);
         }
     drop_store(&s);

@@ -5,6 +5,11 @@
 #include <stdlib.h>
 #include <string.h>
 
+// A fault among others takes a variant of its own, so that each of its variants meets other faults.
+static size_t variant_of(size_t variant, unsigned set, size_t k) {
+    return set & (set - 1) ? variant + (set * 2654435761u >> (8 + k)) : variant;
+}
+
 // Spoils a draft with a set of faults, the last of them first, and gives the answer that is due.
 static uint64_t spoil_with(struct draft *d, const struct subject *subject, unsigned set,
                            size_t variant) {
@@ -12,7 +17,7 @@ static uint64_t spoil_with(struct draft *d, const struct subject *subject, unsig
     for (size_t k = subject->count; k-- > 0;) {
         if ((set >> k & 1) == 0)
             continue;
-        subject->faults[k].apply(d, variant);
+        subject->faults[k].apply(d, variant_of(variant, set, k));
         due = subject->faults[k].number;
     }
     return due == 8 ? due + 256 * d->wrong : due;

@@ -86,9 +86,7 @@ void must_put(struct split *split, uint64_t node, const uint8_t *tag) {
     settle(&o);
 }
 
-void must_refuse(const struct split *split, uint64_t node) {
-    uint8_t tag[PAT_TAG_BYTES];
-    fill(tag, sizeof tag, node);
+static void refuse(const struct split *split, uint64_t node, const uint8_t *tag) {
     struct outcome o = put(split, node, tag);
     expect(o.answer == PAT_REFUSED_NOT_AWAITED,
            "depth %u, block %llu, filled %#llx: node %llu is refused with 9, and not answered %llu",
@@ -98,6 +96,16 @@ void must_refuse(const struct split *split, uint64_t node) {
     expect(all_unchanged(&o), "a refused put of node %llu changed something",
            (unsigned long long)node);
     settle(&o);
+}
+
+void must_refuse(const struct split *split, uint64_t node) {
+    uint8_t tag[PAT_TAG_BYTES];
+    fill(tag, sizeof tag, node);
+    refuse(split, node, tag);
+}
+
+void must_refuse_same(const struct split *split, uint64_t node) {
+    refuse(split, node, tag_of(&split->store, node));
 }
 
 void expect_same(const struct split *split, const struct store *s) {

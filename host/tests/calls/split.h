@@ -36,6 +36,9 @@ void must_put(struct split *split, uint64_t node, const uint8_t *tag);
 // A put that must be refused with 9, and change nothing.
 void must_refuse(const struct split *split, uint64_t node);
 
+// The same of the tag that the node has on the card.
+void must_refuse_same(const struct split *split, uint64_t node);
+
 // The split has anchor and card of the store.
 void expect_same(const struct split *split, const struct store *store);
 
