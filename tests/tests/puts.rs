@@ -163,7 +163,8 @@ fn any_node(depth: u64, index: u64, random: &mut Random) -> u64 {
     }
 }
 
-/// Plans of 24 random bytes, most of them with a block of the card, and any node, most often one of that block's.
+/// Plans of 24 random bytes, most of them with a block of the card, and any node, most often one of that block's; in a quarter the
+/// tag that the node has on the card.
 #[test]
 fn random_plans() {
     let (mut random, mut seen) = (Random::new(0x6279_7465), Seen::default());
@@ -179,6 +180,9 @@ fn random_plans() {
             call.node = any_node(depth, index, &mut random);
             if random.below(2) == 0 {
                 call.card = random.bytes(list.card.len());
+            }
+            if (2..2 << depth).contains(&call.node) && random.below(4) == 0 {
+                call.tag = call.card[layout::tag(depth, Node(call.node))].to_vec();
             }
             seen.put(&call);
         }
