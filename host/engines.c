@@ -246,8 +246,8 @@ static void must(uint64_t answer, const char *what, uint64_t number) {
 }
 
 // The split write. What it leaves in the store is to be stored as after pat_write: the anchor, and
-// then the ranges. It waits for every tag: a host whose engines can fail waits so long and no
-// longer, and then goes on with the anchor and the card of before.
+// then the ranges. It waits for every tag: a host whose engines can fail gives the plan up after a
+// time, and goes on with the anchor and the card of before.
 static struct work write_by_engines(struct store *s, const struct cipher *cipher, uint64_t index,
                                     const uint8_t block[PAT_BLOCK_BYTES]) {
     uint8_t plan[PAT_PLAN_BYTES], messages[PAT_MESSAGES_BYTES];
