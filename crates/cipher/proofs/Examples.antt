@@ -1,11 +1,18 @@
--- The worked example of FIPS 197, appendix B, computed from the definitions.
+-- Numbers that FIPS 197 prints, computed from the definitions: the round constants, and the worked example of its appendix B.
 use mathlib.Core.Path.{◌≡◌, refl}
-use mathlib.Core.List.{[], ◌∷◌}
+use mathlib.Core.List.{[], ◌∷◌, map}
 use Rattle.tables.specs.Field.{x_times, times_low, times, inverse}
 use Rattle.tables.specs.SBox.{affine, s_box}
 use Rattle.cipher.specs.State.{sub_bytes, shift_rows, mix_row, mix_columns, add_round_key}
 use Rattle.cipher.specs.KeyExpansion.{xor_word, rot_word, sub_word, z_power, round_constant, temp, next_word, first_words, key_expansion}
 use Rattle.cipher.specs.Cipher.{round_key, rounds, last_round, cipher_of, encrypt_of}
+
+-- 5.2: the first bytes of Rcon[1] to Rcon[10]
+pub round-constants :
+    map round_constant (1 ∷ 2 ∷ 3 ∷ 4 ∷ 5 ∷ 6 ∷ 7 ∷ 8 ∷ 9 ∷ 10 ∷ [])
+    ≡ 0x01 ∷ 0x02 ∷ 0x04 ∷ 0x08 ∷ 0x10 ∷ 0x20 ∷ 0x40 ∷ 0x80 ∷ 0x1b ∷ 0x36 ∷ []
+unfolding x_times z_power round_constant
+round-constants = refl
 
 pub appendix-b :
     encrypt_of

@@ -1,16 +1,32 @@
 -- The key schedule, a round key at a time.
 use mathlib.Core.Path.{◌≡◌, sym, ap, ap₂, ◌∙◌}
 use mathlib.Core.List.{List, ◌++◌, append_assoc}
-use Prim.Native.Nat.{ℕ, suc, ◌+◌, ◌-◌, ◌*◌, ◌/◌, ◌%◌, ◌<◌}
+use Prim.Native.Nat.{ℕ, zero, suc, ◌+◌, ◌-◌, ◌*◌, ◌/◌, ◌%◌, ◌<◌}
 use native.Mathlib.Omega.{arith}
 use borrow.Author.Tests.{eq-eqb, ne_eqb}
 use lib.ListN.{length, take, drop, length-append}
 use lib.Seq.{drop-append-add, sets, sets-eq, length-sets, length-take-le, take-add, take_at, drop_at}
 use Rattle.words.specs.Bytes.{part}
-use Rattle.cipher.specs.KeyExpansion.{word_at, xor_word, sub_word, rot_word, round_constant}
+use Rattle.tables.specs.Field.{times}
+use Rattle.cipher.specs.KeyExpansion.{word_at, xor_word, sub_word, rot_word, z_power, round_constant}
 use Rattle.cipher.specs.KeyExpansion.{rcon, temp, next_word, first_words, next_round_key}
 use Rattle.words.specs.Words.{state_of}
 use Rattle.words.specs.declared.Columns.{Columns}
+use Rattle.tables.proofs.Doubling.{times-two, x-times-byte}
+
+-- every power of z is a byte
+z_power-byte : (n : ℕ) → z_power n < 256
+unfolding z_power
+z_power-byte zero = omega arith
+z_power-byte (suc n) = x-times-byte (z_power n) (z_power-byte n)
+
+-- the constant of one round more: that of this round times 2
+pub constant_more : (i : ℕ) → times 2 (round_constant (i + 1)) ≡ round_constant (i + 1 + 1)
+unfolding round_constant z_power
+constant_more i =
+    let m : i + 1 - 1 ≡ i = omega arith in
+    let n : i + 1 + 1 - 1 ≡ suc i = omega arith in
+    rw (m, n) (times-two (z_power i) (z_power-byte i))
 
 -- the words from 4 r on stand in q, after the 16 r bytes of p
 module _ (p q : List ℕ) (r : ℕ) (n : length p ≡ 16 * r) where

@@ -1,12 +1,13 @@
 // Key expansion: the ten round keys after the key, a round key at a time.
-ghost use Rattle.std.specs.Prelude.{◌≡◌, ◌+◌, ◌<◌};
-ghost use Rattle.cipher.specs.KeyExpansion.{sub_word, rot_word, round_constant, next_round_key, key_expansion};
+ghost use Rattle.std.specs.Prelude.{◌≡◌};
+ghost use Rattle.cipher.specs.KeyExpansion.{sub_word, rot_word, next_round_key, key_expansion};
 ghost use Rattle.words.specs.Words.{bytes, state_of};
 
+use tables::field;
 use tables::sbox::SBox;
 use words::{Columns, Packed};
 
-// The expanded key.
+// The expanded key. The first byte of the round constant runs along, 1 in the first round and doubled after each.
 pub fn expand(key: [u8; 16]) -> [u8; 176]
     ensures { result ≡ key_expansion key }
 {
@@ -14,22 +15,13 @@ pub fn expand(key: [u8; 16]) -> [u8; 176]
     let mut schedule = [0u8; 176];
     let mut last = Columns::at(&key, 0);
     last.put(&mut schedule, 0);
+    let mut constant = 1;
     for round in 0..10 {
-        last = next(sbox, last, constant(round));
+        last = next(sbox, last, constant);
         last.put(&mut schedule, 16 * round + 16);
+        constant = field::doubled(constant);
     }
     schedule
-}
-
-// The first byte of each round constant.
-static CONSTANTS: [u8; 10] = [0x01, 0x02, 0x04, 0x08, 0x10, 0x20, 0x40, 0x80, 0x1b, 0x36];
-
-// That of the round after so many others.
-fn constant(index: usize) -> u8
-    requires { index < 10 }
-    ensures { result ≡ round_constant (index + 1) }
-{
-    CONSTANTS[index]
 }
 
 // A word turned by a byte, and each byte substituted.
@@ -45,7 +37,7 @@ fn turned(sbox: SBox, word: u32) -> u32
 }
 
 // The round key after another, with the first byte of its round constant.
-fn next(sbox: SBox, key: Columns, constant: u8) -> Columns
+pub fn next(sbox: SBox, key: Columns, constant: u8) -> Columns
     ensures { state_of result ≡ next_round_key constant (state_of key) }
 {
     let c0 = key.c0 ^ (turned(sbox, key.c3) ^ constant as u32);

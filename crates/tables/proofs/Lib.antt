@@ -1,4 +1,5 @@
 pub mod Every
 pub mod Tables
 pub mod Inverse
+pub mod Doubling
 pub mod Examples
