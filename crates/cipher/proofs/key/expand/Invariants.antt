@@ -1,5 +1,5 @@
--- Before turn i the first 16 i + 16 bytes are the first 4 i + 4 words of the schedule, `last` is the last round key among them, and the
--- running byte is FIPS 197's constant of round i + 1, which the turn makes.
+-- Before turn i, which makes the round key of round i + 1, the first 16 i + 16 bytes are the first 4 i + 4 words of the schedule, `last` is
+-- the last round key among them, and the running byte is FIPS 197's constant of round i + 1.
 use Rattle.std.proofs.Common.{◌≡◌, ◌+◌}
 use Rattle.words.specs.Words.{state_of}
 use Rattle.cipher.specs.KeyExpansion.{round_constant}
