@@ -9,7 +9,7 @@ use Rattle.cmac.specs.Traced.{subkeys_count, cmac_count}
 use Rattle.tree.specs.Card.{blanked}
 use Rattle.tree.specs.Limits.{depth_limit, card_limit}
 use Rattle.tree.specs.Tests.{tested}
-use Rattle.tree.specs.Calls.{Call, Gives, Reports, lent_to, limits, answer_of, outcome, format_answer, format}
+use Rattle.tree.specs.Calls.{Call, Gives, Reports, lent_to, limits, answer_of, formatted, outcome, format_answer, format}
 use Rattle.tree.specs.declared.Anchor.{Anchor}
 use Rattle.tree.specs.declared.Refusal.{Refusal}
 use Rattle.tree.specs.Answer.{Whole, Refused}
@@ -27,7 +27,7 @@ reports-limited a card c e =
 
 module _ (F : List ℕ → List ℕ) (key : List ℕ) (n : ℕ) (card : List ℕ) where
   abbrev made : Anchor
-  made = record { key = key; depth = n; root = record { 0 = 0 } }
+  made = formatted key n
 
   pub format-refuses : {r : Refusal} → tested (depth_limit n ∷ card_limit n (length card) ∷ []) ≡ Err r
       → Gives (format F key n card) (Refused r) made card []

@@ -8,7 +8,7 @@ ghost use Rattle.cmac.specs.Traced.{subkeys_count, cmac_count};
 ghost use Rattle.tree.specs.Answer.{answer_in, limited_in};
 ghost use Rattle.tree.specs.Limits.{depth_limit, card_limit, block_limit, length_limit, spent_limit};
 ghost use Rattle.tree.specs.Tests.{tested};
-ghost use Rattle.tree.specs.Calls.{Gives, Reports, read, write, check, wipe, first_limits, outcome, format};
+ghost use Rattle.tree.specs.Calls.{Gives, Reports, read, write, check, wipe, first_limits, formatted, outcome, format};
 ghost use Rattle.tree.specs.declared.Error.TheVariants.{Limit};
 
 use cmac::counted::Counted;
@@ -17,12 +17,13 @@ use tree::{Anchor, BlockIndex, Error, Nonce, Refusal};
 // Makes a card of that depth with every block zero, and its anchor. No count goes with it.
 pub fn format(key: [u8; 16], depth: u64, card: &mut [u8]) -> Result<Anchor, Refusal>
     ensures { Gives (format (cmac_of key) key depth card.old) (limited_in result)
-        (result_unwrap_or result (record { key = key; depth = depth; root = record { 0 = 0 } })) card.new [] }
+        (result_unwrap_or result (formatted key depth)) card.new [] }
 {
     let anchor = Anchor {
         key,
         depth,
         root: Nonce(0),
+        reserved: Nonce(0),
     };
     format_limits(anchor, card.len())?;
     work::blank(anchor, card);
@@ -118,10 +119,10 @@ pub fn wipe(anchor: Anchor, card: &mut [u8]) -> Counted<Result<Anchor, Error>>
 // What a wipe tests.
 #[tactic(auto, unfolding(tree::specs::Limits::first_failing))]
 fn wipe_limits(anchor: Anchor, len: usize) -> Result<(), Refusal>
-    ensures { result ≡ tested (first_limits anchor len ++ (spent_limit anchor.depth anchor.root.0 ∷ [])) }
+    ensures { result ≡ tested (first_limits anchor len ++ (spent_limit anchor.depth anchor.reserved.0 ∷ [])) }
 {
     tree::limits::first(anchor, len)?;
-    tree::limits::nonces_spent(anchor.depth, anchor.root)
+    tree::limits::nonces_spent(anchor.depth, anchor.reserved)
 }
 
 // A refusal by a limit: such a call has not gone through the cipher.

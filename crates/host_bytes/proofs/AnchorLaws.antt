@@ -1,47 +1,88 @@
 -- The anchor's bytes: what a call for C stores is what the next one loads, and a refused call leaves every byte.
 use mathlib.Core.Path.{◌≡◌, refl, sym, ap, subst, ◌∙◌}
 use mathlib.Core.Bool.{Bool, true, false, cond, ◌&&◌}
-use mathlib.Core.List.{List, [], ◌++◌}
-use mathlib.Core.Logic.{⊎_elim}
-use Prim.Native.Nat.{ℕ, ◌+◌, ◌^◌, ◌<◌}
+use mathlib.Core.List.{List, []}
+use mathlib.Core.Logic.{◌⊎◌, inl, inr, ⊎_elim}
+use Prim.Native.Nat.{ℕ, ◌+◌, ◌^◌, ◌<◌, ◌≤◌}
 use native.Mathlib.Omega.{arith}
-use lib.ListN.{length, take}
+use lib.ListN.{length}
+use lib.Seq.{sets, length-sets}
+use Rattle.words.specs.Bytes.{part}
+use Rattle.tree.proofs.ByteLaws.{length-be, part-sets-apart}
+use Rattle.plan.proofs.StoreLaws.{part-sets}
 use Rattle.words.proofs.Cases.{equal_or_not}
 use Rattle.cmac.specs.Cmac.{cmac_of}
 use Rattle.tree.specs.Numbers.{be8}
 use Rattle.tree.specs.Answer.{refusal_number, is_whole}
-use Rattle.tree.specs.Calls.{Call, read, write, check, wipe, lent_to, renews, rooted, Outcome, answer_of, settled, outcome}
+use Rattle.tree.specs.Calls.{Call, read, write, check, wipe, lent_to, renews, rooted, renew, formatted, Outcome, answer_of, settled, outcome}
 use Rattle.tree.specs.Calls.{format_answer, format_card, format}
 use Rattle.tree.specs.declared.Anchor.{Anchor}
 use Rattle.tree.specs.declared.Refusal.{Refusal}
 use Rattle.tree.specs.declared.Refusal.TheVariants.{Depth, RootNonce, CardLength, BlockNumber, BlockLength, RangeLength, NoncesSpent}
-use Rattle.tree.specs.declared.Refusal.TheVariants.{NotAwaited}
+use Rattle.tree.specs.declared.Refusal.TheVariants.{NotAwaited, Journal}
 use Rattle.tree.specs.Answer.{Answer}
 use Rattle.tree.specs.Answer.{Whole, Wrong, Refused}
 use Rattle.tree.proofs.CallLaws.{accepted, settled-answer}
-use Rattle.host_bytes.specs.Host.{anchor_bytes, refused_length, number, anchor_of, code_of, Host, hosted, measured, host_call, host_format}
-use Rattle.host_bytes.specs.Host.{Hosts, Codes}
+use Rattle.host_bytes.specs.Host.{anchor_bytes, refused_length, number, anchor_of, with_root, with_reserved, with_nonces, code_of, Host}
+use Rattle.host_bytes.specs.Host.{hosted, measured, host_call, host_format, Hosts, Codes}
 use Rattle.host_bytes.specs.RoundTrip.{Stands, RoundTrip}
-use Rattle.host_bytes.proofs.StoredLaws.{stored-long, stored-before, stored_last}
 use Rattle.host_bytes.proofs.HostLaws.{number-be, measured-in, measured-out, host-call, host-format}
 
 -- The root nonce stored
 
-anchor-same : {k l : List ℕ} {n m u r : ℕ} → k ≡ l → n ≡ m → u ≡ r
-    → ◌≡◌ {A = Anchor} (record { key = k; depth = n; root = record { 0 = u } })
-    (record { key = l; depth = m; root = record { 0 = r } })
-anchor-same p q r = cc
+anchor-same : {k l : List ℕ} {n m u r g h : ℕ} → k ≡ l → n ≡ m → u ≡ r → g ≡ h
+    → ◌≡◌ {A = Anchor} (record { key = k; depth = n; root = record { 0 = u }; reserved = record { 0 = g } })
+    (record { key = l; depth = m; root = record { 0 = r }; reserved = record { 0 = h } })
+anchor-same p q r s = cc
 
-pub put-stands : (s : List ℕ) → length s ≡ anchor_bytes → (t : ℕ) → t < 2 ^ 64
-    → Stands (take 24 s ++ be8 t) (rooted (anchor_of s) t)
-unfolding anchor_of
-put-stands s long t h =
-    record {
-      long = stored-long s 24 long t;
-      is = anchor-same (stored-before s 24 long t 0 16 (omega arith))
-          (ap number (stored-before s 24 long t 16 8 (omega arith)))
-          (ap number (stored_last s 24 long t) ∙ number-be 8 t (omega arith));
-    }
+module _ (s : List ℕ) (long : length s ≡ anchor_bytes) where
+  -- a number stored at k, and what stands apart from it
+  stored-number : (k t : ℕ) → k + 8 ≤ 40 → t < 2 ^ 64 → number (part (sets s k (be8 t)) k 8) ≡ t
+  stored-number k t h l =
+      ap number
+      (ap (part (sets s k (be8 t)) k) (sym (length-be 8 t)) ∙ part-sets (be8 t) s k (omega (arith, length-be 8 t)))
+      ∙ number-be 8 t (omega arith)
+
+  stored-apart : (k t o m : ℕ) → (o + m ≤ k) ⊎ (k + 8 ≤ o) → part (sets s k (be8 t)) o m ≡ part s o m
+  stored-apart k t o m h =
+      part-sets-apart (be8 t) s k o m
+      (⊎_elim (λ (l : o + m ≤ k). inl l) (λ (l : k + 8 ≤ o). inr (omega (arith, length-be 8 t))) h)
+
+  pub put-stands : (t : ℕ) → t < 2 ^ 64 → Stands (with_root s t) (rooted (anchor_of s) t)
+  unfolding anchor_of
+  put-stands t h =
+      record {
+        long = length-sets s 24 (be8 t) ∙ long;
+        is = anchor-same (stored-apart 24 t 0 16 (inl (omega arith)))
+            (ap number (stored-apart 24 t 16 8 (inl (omega arith)))) (stored-number 24 t (omega arith) h)
+            (ap number (stored-apart 24 t 32 8 (inr (omega arith))));
+      }
+
+  pub reserve-stands : (h : ℕ) → h < 2 ^ 64
+      → Stands (with_reserved s h)
+      (record { key = (anchor_of s).key; depth = (anchor_of s).depth; root = (anchor_of s).root; reserved = record { 0 = h } })
+  unfolding anchor_of
+  reserve-stands h l =
+      record {
+        long = length-sets s 32 (be8 h) ∙ long;
+        is = anchor-same (stored-apart 32 h 0 16 (inl (omega arith)))
+            (ap number (stored-apart 32 h 16 8 (inl (omega arith))))
+            (ap number (stored-apart 32 h 24 8 (inl (omega arith)))) (stored-number 32 h (omega arith) l);
+      }
+
+-- both of them
+pub nonces-stand : (s : List ℕ) → length s ≡ anchor_bytes → (t h : ℕ) → t < 2 ^ 64 → h < 2 ^ 64 →
+    let a : Anchor = record {
+      key = (anchor_of s).key;
+      depth = (anchor_of s).depth;
+      root = record { 0 = t };
+      reserved = record { 0 = h };
+    } in
+    Stands (with_nonces s a) a
+nonces-stand s long t h small l =
+    let k = reserve-stands s long h l in
+    let p = put-stands (with_reserved s h) k.long t small in
+    record { long = p.long; is = p.is ∙ ap (λ (a : Anchor). rooted a t) k.is }
 
 -- Codes
 
@@ -54,6 +95,7 @@ refusal-number BlockLength e = omega arith
 refusal-number RangeLength e = omega arith
 refusal-number NoncesSpent e = omega arith
 refusal-number NotAwaited e = omega arith
+refusal-number Journal e = omega arith
 
 -- 0 says accepted
 pub code-whole : (x : Answer) → code_of x ≡ 0 → x ≡ Whole
@@ -106,7 +148,7 @@ format-leaves F key n card = record { card-kept = go (format_answer n card); len
 hosted-refused : (moves : Bool) (s : List ℕ) (o : Outcome) → (code_of o.answer ≡ 0 → ⊥) → (hosted moves s o).anchor ≡ s
 hosted-refused moves s o d = go o.answer moves d
   where
-    go : (x : Answer) (m : Bool) → (code_of x ≡ 0 → ⊥) → cond (m && is_whole x) (take 24 s ++ be8 o.anchor.root.0) s ≡ s
+    go : (x : Answer) (m : Bool) → (code_of x ≡ 0 → ⊥) → cond (m && is_whole x) (with_nonces s o.anchor) s ≡ s
     go Whole m d = absurd (d whole_code)
     go (Wrong u) true d = refl
     go (Wrong u) false d = refl
@@ -152,6 +194,12 @@ module _ (F : List ℕ → List ℕ) (s : List ℕ) (long : length s ≡ anchor_
   kept : Stands s (anchor_of s)
   kept = record { long = long; is = refl }
 
+  renewed : (anchor_of s).reserved.0 + (anchor_of s).depth < 2 ^ 64
+      → Stands (with_nonces s (renew (anchor_of s))) (renew (anchor_of s))
+  renewed h =
+      let r = (anchor_of s).reserved.0 + (anchor_of s).depth in
+      nonces-stand s long r r h h
+
   settled-stands : (c : Call) (x : Answer) → answer_of F (anchor_of s) card c ≡ x
       → Stands (hosted (renews c) s (settled F x (anchor_of s) card c)).anchor (settled F x (anchor_of s) card c).anchor
   settled-stands (read i buffer) Whole e = kept
@@ -162,13 +210,10 @@ module _ (F : List ℕ → List ℕ) (s : List ℕ) (long : length s ≡ anchor_
   settled-stands check (Refused r) e = kept
   settled-stands wipe (Wrong u) e = kept
   settled-stands wipe (Refused r) e = kept
-  settled-stands wipe Whole e =
-      put-stands s long ((anchor_of s).root.0 + (anchor_of s).depth) (accepted F (anchor_of s) card wipe e).limits-passed.unspent
+  settled-stands wipe Whole e = renewed (accepted F (anchor_of s) card wipe e).limits-passed.unspent
   settled-stands (write i block ranges) (Wrong u) e = kept
   settled-stands (write i block ranges) (Refused r) e = kept
-  settled-stands (write i block ranges) Whole e =
-      put-stands s long ((anchor_of s).root.0 + (anchor_of s).depth)
-      (accepted F (anchor_of s) card (write i block ranges) e).limits-passed.unspent
+  settled-stands (write i block ranges) Whole e = renewed (accepted F (anchor_of s) card (write i block ranges) e).limits-passed.unspent
 
   hosted-stands : (c : Call) → Stands (hosted (renews c) s (outcome F (anchor_of s) card c)).anchor (outcome F (anchor_of s) card c).anchor
   unfolding outcome
@@ -211,9 +256,10 @@ module _ (s card e left : List ℕ) (g : Hosts (host_format s card) 0 e left [])
   pub format-stands : Stands e (format (cmac_of (anchor_of s).key) (anchor_of s).key (anchor_of s).depth card).anchor
   unfolding format
   format-stands =
-      subst (λ (z : List ℕ). Stands z (rooted (anchor_of s) 0))
-      (sym (format-told.anchored ∙ ap (λ (x : Answer). cond (is_whole x) (take 24 s ++ be8 0) s) format-whole))
-      (put-stands s format-long 0 (omega arith))
+      let a = formatted (anchor_of s).key (anchor_of s).depth in
+      subst (λ (z : List ℕ). Stands z a)
+      (sym (format-told.anchored ∙ ap (λ (x : Answer). cond (is_whole x) (with_nonces s a) s) format-whole))
+      (nonces-stand s format-long 0 0 (omega arith) (omega arith))
 
 pub round_trip : (s card : List ℕ) → RoundTrip s card
 round_trip s card =

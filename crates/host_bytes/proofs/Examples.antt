@@ -5,7 +5,7 @@ use Prim.Native.Nat.{ℕ, ◌+◌, ◌*◌}
 use lib.ListN.{length, replicate}
 use Rattle.tree.specs.declared.Node.{Node}
 use Rattle.tree.specs.declared.Refusal.TheVariants.{Depth, RootNonce, CardLength, BlockNumber, BlockLength, RangeLength, NoncesSpent}
-use Rattle.tree.specs.declared.Refusal.TheVariants.{NotAwaited}
+use Rattle.tree.specs.declared.Refusal.TheVariants.{NotAwaited, Journal}
 use Rattle.tree.specs.Answer.{Whole, Wrong, Refused}
 use Rattle.tree.specs.Numbers.{be}
 use Rattle.tree.specs.Calls.{Call, lent_to}
@@ -15,9 +15,14 @@ use Rattle.host_bytes.specs.Split.{plan_of, bytes_of, host_plan, HostsPlan, host
 use Rattle.host_bytes.proofs.HostLaws.{measured-out}
 use Rattle.host_bytes.proofs.SplitLaws.{plan-unmeasured, put-unmeasured}
 
--- key, then n in 8 bytes, then T in 8, big-endian
-pub anchor-bytes : anchor_of (replicate 16 7 ++ (0 ∷ 0 ∷ 0 ∷ 0 ∷ 0 ∷ 0 ∷ 0 ∷ 10 ∷ 1 ∷ 2 ∷ 3 ∷ 4 ∷ 5 ∷ 6 ∷ 7 ∷ 8 ∷ []))
-    ≡ record { key = replicate 16 7; depth = 10; root = record { 0 = 0x0102030405060708 } }
+-- key, then n in 8 bytes, then T in 8, then H in 8, big-endian
+pub anchor-bytes : anchor_of (replicate 16 7 ++ (0 ∷ 0 ∷ 0 ∷ 0 ∷ 0 ∷ 0 ∷ 0 ∷ 10 ∷ 1 ∷ 2 ∷ 3 ∷ 4 ∷ 5 ∷ 6 ∷ 7 ∷ 8 ∷ 0 ∷ 2 ∷ 0 ∷ 0 ∷ 0 ∷ 0 ∷ 0 ∷ 9 ∷ []))
+    ≡ record {
+      key = replicate 16 7;
+      depth = 10;
+      root = record { 0 = 0x0102030405060708 };
+      reserved = record { 0 = 0x0002000000000009 };
+    }
 unfolding anchor_of number
 anchor-bytes = refl
 
@@ -38,21 +43,21 @@ answer-number = (refl, λ u. refl)
 pub limit-numbers :
     (code_of (Refused Depth) ≡ 1) × (code_of (Refused RootNonce) ≡ 2) × (code_of (Refused CardLength) ≡ 3)
     × (code_of (Refused BlockNumber) ≡ 4) × (code_of (Refused BlockLength) ≡ 5) × (code_of (Refused RangeLength) ≡ 6)
-    × (code_of (Refused NoncesSpent) ≡ 7) × (code_of (Refused NotAwaited) ≡ 9)
+    × (code_of (Refused NoncesSpent) ≡ 7) × (code_of (Refused NotAwaited) ≡ 9) × (code_of (Refused Journal) ≡ 10)
 unfolding code_of
-limit-numbers = (refl, refl, refl, refl, refl, refl, refl, refl)
+limit-numbers = (refl, refl, refl, refl, refl, refl, refl, refl, refl)
 
 -- "another length is refused 5, before the rest": of the anchor, and of the plan, its messages and a tag
-pub anchor-length : (s card : List ℕ) → (length s ≡ 32 → ⊥)
+pub anchor-length : (s card : List ℕ) → (length s ≡ 40 → ⊥)
     → Hosts (host_format s card) 5 s card [] × ((c : Call) → Hosts (host_call s card c) 5 s card (lent_to c))
 unfolding host_format host_call
 anchor-length s card d = (measured-out s card [] _ d, λ c. measured-out s card (lent_to c) _ d)
 
 pub plan-lengths : (s card : List ℕ) (i : ℕ) (block ranges b messages : List ℕ)
-    → ((length s ≡ 32) × (length b ≡ 24) × (length messages ≡ 656) → ⊥)
-    → HostsPlan (host_plan s card i block ranges b messages) 5 b card ranges messages
+    → ((length s ≡ 40) × (length b ≡ 24) × (length messages ≡ 656) → ⊥)
+    → HostsPlan (host_plan s card i block ranges b messages) 5 s b card ranges messages
 plan-lengths s card i block ranges b messages d = plan-unmeasured s card i block ranges b messages d
 
-pub put-lengths : (s b card : List ℕ) (u : ℕ) (tag : List ℕ) → ((length s ≡ 32) × (length b ≡ 24) × (length tag ≡ 16) → ⊥)
+pub put-lengths : (s b card : List ℕ) (u : ℕ) (tag : List ℕ) → ((length s ≡ 40) × (length b ≡ 24) × (length tag ≡ 16) → ⊥)
     → HostsPut (host_put s b card u tag) 5 s b card
 put-lengths s b card u tag d = put-unmeasured s b card u tag d

@@ -24,10 +24,15 @@ plan F a card i block ranges =
     rw (plan-answer F a card i block ranges ∙ sym (outcome-answer F a card (write i block ranges)))
     (node-small F a card (write i block ranges))
 
--- messages of another length, where the plan's bytes are lent as an array
-pub messages : (s card : List ℕ) (i : ℕ) (block ranges p ms : List ℕ) → length ms ≢ message_room → {lent : List ℕ} → lent ≡ p
-    → HostsPlan (host_plan s card i block ranges p ms) refused_length lent card ranges ms
-messages s card i block ranges p ms d e = rw e (plan-unmeasured s card i block ranges p ms (λ l. d l.2))
+-- a plan's bytes of another length, where the anchor's are lent as an array
+pub plan_bytes_length : (s card : List ℕ) (i : ℕ) (block ranges p ms : List ℕ) → length p ≢ plan_bytes → {lent : List ℕ} → lent ≡ s
+    → HostsPlan (host_plan s card i block ranges p ms) refused_length lent p card ranges ms
+plan_bytes_length s card i block ranges p ms d e = rw e (plan-unmeasured s card i block ranges p ms (λ l. d l.1))
+
+-- messages of another length, where both are
+pub messages : (s card : List ℕ) (i : ℕ) (block ranges p ms : List ℕ) → length ms ≢ message_room → {kept lent : List ℕ} → kept ≡ s
+    → lent ≡ p → HostsPlan (host_plan s card i block ranges p ms) refused_length kept lent card ranges ms
+messages s card i block ranges p ms d f e = rw (f, e) (plan-unmeasured s card i block ranges p ms (λ l. d l.2))
 
 -- a put's plan of another length, where the anchor's bytes are lent as an array
 pub put : (s p card : List ℕ) (u : ℕ) (tag : List ℕ) → length p ≢ plan_bytes → {lent : List ℕ} → lent ≡ s

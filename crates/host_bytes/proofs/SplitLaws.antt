@@ -11,7 +11,7 @@ use Rattle.tree.specs.declared.Anchor.{Anchor}
 use Rattle.tree.specs.Answer.{Answer, is_whole}
 use Rattle.plan.specs.Split.{planned, Plans, message_room, put}
 use Rattle.plan.specs.declared.Plan.{Plan}
-use Rattle.host_bytes.specs.Host.{anchor_bytes, anchor_of, code_of, refused_length}
+use Rattle.host_bytes.specs.Host.{anchor_bytes, anchor_of, with_reserved, code_of, refused_length}
 use Rattle.host_bytes.specs.Split.{plan_bytes, plan_of, bytes_of, tag_bytes, hosted_plan, host_plan, HostsPlan}
 use Rattle.host_bytes.specs.Split.{hosted_put, host_put, HostsPut}
 
@@ -42,30 +42,34 @@ module _ (s x y : List ℕ) (k : ℕ) where
 
 module _ (anchor card : List ℕ) (i : ℕ) (block ranges plan messages : List ℕ) where
   pub plan-unmeasured : (Lengths anchor plan messages message_room → ⊥)
-      → HostsPlan (host_plan anchor card i block ranges plan messages) refused_length plan card ranges messages
+      → HostsPlan (host_plan anchor card i block ranges plan messages) refused_length anchor plan card ranges messages
   unfolding host_plan
   plan-unmeasured d =
       rw (one-wrong anchor plan messages message_room d)
-      (record { coded = refl; planned = refl; left = refl; filled = refl; gave = refl })
+      (record { coded = refl; anchored = refl; planned = refl; left = refl; filled = refl; gave = refl })
 
   pub host-plan : Lengths anchor plan messages message_room →
       let a = anchor_of anchor in
-      host_plan anchor card i block ranges plan messages ≡ hosted_plan plan messages (planned (cmac_of a.key) a card i block ranges)
+      host_plan anchor card i block ranges plan messages ≡ hosted_plan anchor plan messages (planned (cmac_of a.key) a card i block ranges)
   unfolding host_plan
   host-plan l = rw (all_right anchor plan messages message_room l)
 
   -- a plan that is made of lengths that are right, and put into its bytes
-  pub plan_measured : {a : Anchor} {p ms : List ℕ} {subkeys : ℕ} {each : List ℕ → ℕ} {answer : Answer} {count : ℕ} {made : Plan}
-      {left filled gave : List ℕ} {code : ℕ} {bytes : List ℕ}
-      → Plans subkeys each (planned (cmac_of a.key) a card i block ranges) ms answer count a made left filled gave
-      → code ≡ code_of answer → bytes ≡ cond (is_whole answer) (bytes_of made) p → a ≡ anchor_of anchor → p ≡ plan
+  pub plan_measured : {a : Anchor} {p ms : List ℕ} {subkeys : ℕ} {each : List ℕ → ℕ} {answer : Answer} {count : ℕ} {raised : Anchor}
+      {made : Plan} {left filled gave : List ℕ} {code : ℕ} {s kept bytes : List ℕ}
+      → Plans subkeys each (planned (cmac_of a.key) a card i block ranges) ms answer count raised made left filled gave
+      → code ≡ code_of answer → kept ≡ cond (is_whole answer) (with_reserved s raised.reserved.0) s
+      → bytes ≡ cond (is_whole answer) (bytes_of made) p → a ≡ anchor_of anchor → s ≡ anchor → p ≡ plan
       → length anchor ≡ anchor_bytes → length plan ≡ plan_bytes → length messages ≡ message_room → ms ≡ messages
-      → HostsPlan (host_plan anchor card i block ranges plan messages) code bytes left filled gave
-  plan_measured {answer = answer} {made = made} k c b e f l n r m =
+      → HostsPlan (host_plan anchor card i block ranges plan messages) code kept bytes left filled gave
+  plan_measured {answer = answer} {raised = raised} {made = made} k c h b e q f l n r m =
       let g = k.reports.gives in
       rw (host-plan (l, n, r), sym e, sym m)
       (record {
         coded = c ∙ ap code_of g.answered;
+        anchored =
+            h ∙ ap (λ (s : List ℕ). cond (is_whole answer) (with_reserved s raised.reserved.0) s) q
+            ∙ ap₂ (λ (x : Answer) (d : Anchor). cond (is_whole x) (with_reserved anchor d.reserved.0) anchor) g.answered g.anchored;
         planned =
             b ∙ ap (cond (is_whole answer) (bytes_of made)) f
             ∙ ap₂ (λ (x : Answer) (q : Plan). cond (is_whole x) (bytes_of q) plan) g.answered k.planned;

@@ -24,11 +24,11 @@ use Rattle.plan.proofs.BitLaws.{set-fits}
 use Rattle.plan.proofs.PlaceLaws.{unset, awaited-below}
 use Rattle.plan.proofs.PlanLaws.{plan-answer, planned-done, planned-refused}
 use Rattle.plan.proofs.PutLaws.{put_in, put-answer, put-unchanged}
-use Rattle.host_bytes.specs.Host.{anchor_bytes, refused_length, anchor_of, code_of}
+use Rattle.host_bytes.specs.Host.{anchor_bytes, refused_length, anchor_of, with_root, with_reserved, code_of}
 use Rattle.host_bytes.specs.Split.{plan_bytes, plan_of, bytes_of, tag_bytes, HostPlan, hosted_plan, host_plan, HostsPlan}
-use Rattle.host_bytes.specs.Split.{HostPut, with_root, hosted_put, host_put, HostsPut}
+use Rattle.host_bytes.specs.Split.{HostPut, root_moved, hosted_put, host_put, HostsPut}
 use Rattle.host_bytes.specs.RoundTrip.{Stands, StandsPlan, SplitTrip}
-use Rattle.host_bytes.proofs.AnchorLaws.{put-stands, code-whole, whole_code, outcome-leaves}
+use Rattle.host_bytes.proofs.AnchorLaws.{put-stands, reserve-stands, code-whole, whole_code, outcome-leaves}
 use Rattle.host_bytes.proofs.SplitLaws.{lengths, host-plan, host-put}
 use Rattle.host_bytes.proofs.PlanBytesLaws.{bytes-stand, filled-stand}
 
@@ -52,71 +52,81 @@ module _ (s card b : List ℕ) (i : ℕ) (block ranges buffer : List ℕ) where
   o = planned (cmac_of (anchor_of s).key) (anchor_of s) card i block ranges
 
   -- with buffers of the right lengths it is the hosted plan, and with others it is refused
-  plan-cases : (P : HostPlan → Type 0) → P (hosted_plan b buffer o)
-      → P (record { code = refused_length; plan = b; card = card; ranges = ranges; messages = buffer })
+  plan-cases : (P : HostPlan → Type 0) → P (hosted_plan s b buffer o)
+      → P (record { code = refused_length; anchor = s; plan = b; card = card; ranges = ranges; messages = buffer })
       → P (host_plan s card i block ranges b buffer)
   unfolding host_plan
   plan-cases P right wrong = go (lengths s b buffer message_room)
     where
       go : (c : Bool)
-          → P (cond c (hosted_plan b buffer o)
-          (record { code = refused_length; plan = b; card = card; ranges = ranges; messages = buffer }))
+          → P (cond c (hosted_plan s b buffer o)
+          (record { code = refused_length; anchor = s; plan = b; card = card; ranges = ranges; messages = buffer }))
       go true = right
       go false = wrong
 
-  module _ (code : ℕ) (made left filled gave : List ℕ) where
-    plan-trip : HostsPlan (hosted_plan b buffer o) code made left filled gave → code ≡ 0
-        → StandsPlan made (planned (cmac_of (anchor_of s).key) (anchor_of s) card i block ranges).plan
-    plan-trip g zero =
+  module _ (code : ℕ) (e made left filled gave : List ℕ) where
+    plan-trip : HostsPlan (hosted_plan s b buffer o) code e made left filled gave → length s ≡ anchor_bytes → code ≡ 0
+        → Stands e (planned (cmac_of (anchor_of s).key) (anchor_of s) card i block ranges).call.anchor
+        × StandsPlan made (planned (cmac_of (anchor_of s).key) (anchor_of s) card i block ranges).plan
+    plan-trip g long zero =
         let w = code-whole o.call.answer (sym g.coded ∙ zero) in
-        let e = sym (plan-answer (cmac_of a.key) a card i block ranges) ∙ w in
-        let ok = (accepted (cmac_of a.key) a card (write i block ranges) e).limits-passed in
-        let d = ap (λ (q : Planned). q.plan) (planned-done (cmac_of a.key) a card i block ranges e) in
-        let p : Plan = record { index = record { 0 = i }; root = record { 0 = a.root.0 + a.depth }; filled = 0 } in
-        subst (λ (l : List ℕ). StandsPlan l o.plan)
-        (sym (g.planned ∙ ap (λ (x : Answer). cond (is_whole x) (bytes_of o.plan) b) w))
-        (subst (λ (q : Plan). StandsPlan (bytes_of q) q) (sym d)
-        (bytes-stand p (omega (arith, ok.inside, few-leaves a.depth ok.sound.shallow)) ok.unspent (omega arith)))
+        let v = sym (plan-answer (cmac_of a.key) a card i block ranges) ∙ w in
+        let ok = (accepted (cmac_of a.key) a card (write i block ranges) v).limits-passed in
+        let d = ap (λ (q : Planned). q.plan) (planned-done (cmac_of a.key) a card i block ranges v) in
+        let p : Plan = record { index = record { 0 = i }; root = record { 0 = a.reserved.0 + a.depth }; filled = 0 } in
+        let f = ap (λ (q : Planned). q.call.anchor) (planned-done (cmac_of a.key) a card i block ranges v) in (
+          subst (λ (l : List ℕ). Stands l o.call.anchor)
+              (sym (g.anchored ∙ ap (λ (x : Answer). cond (is_whole x) (with_reserved s o.call.anchor.reserved.0) s) w))
+              (subst (λ (b : Anchor). Stands (with_reserved s b.reserved.0) b) (sym f)
+              (reserve-stands s long (a.reserved.0 + a.depth) ok.unspent)),
+          subst (λ (l : List ℕ). StandsPlan l o.plan)
+              (sym (g.planned ∙ ap (λ (x : Answer). cond (is_whole x) (bytes_of o.plan) b) w))
+              (subst (λ (q : Plan). StandsPlan (bytes_of q) q) (sym d)
+              (bytes-stand p (omega (arith, ok.inside, few-leaves a.depth ok.sound.shallow)) ok.unspent (omega arith))),
+        )
 
-    plan-leaves : HostsPlan (hosted_plan b buffer o) code made left filled gave → (code ≡ 0 → ⊥)
-        → (made ≡ b) × (left ≡ card) × (filled ≡ ranges) × (gave ≡ buffer)
+    plan-leaves : HostsPlan (hosted_plan s b buffer o) code e made left filled gave → (code ≡ 0 → ⊥)
+        → (e ≡ s) × (made ≡ b) × (left ≡ card) × (filled ≡ ranges) × (gave ≡ buffer)
     plan-leaves g d =
         let F = cmac_of a.key in
         let no : o.call.answer ≡ Whole → ⊥ = λ w. d (g.coded ∙ ap code_of w ∙ whole_code) in
-        let e = planned-refused F a card i block ranges (λ w. no (plan-answer F a card i block ranges ∙ w)) in
+        let q = planned-refused F a card i block ranges (λ w. no (plan-answer F a card i block ranges ∙ w)) in
         let k = outcome-leaves F a card (write i block ranges) in
         let refused : (outcome F a card (write i block ranges)).answer ≡ Whole → ⊥ =
         λ w. no (plan-answer F a card i block ranges ∙ sym (outcome-answer F a card (write i block ranges)) ∙ w) in (
+          g.anchored ∙ ap (λ (c : Bool). cond c (with_reserved s o.call.anchor.reserved.0) s) (not-whole o.call.answer no),
           g.planned ∙ ap (λ (c : Bool). cond c (bytes_of o.plan) b) (not-whole o.call.answer no),
-          g.left ∙ ap (λ (q : Planned). q.call.card) e ∙ k.card-kept refused,
-          g.filled ∙ ap (λ (q : Planned). q.call.lent) e ∙ k.lent-kept refused,
-          g.gave ∙ ap (λ (q : Planned). joined q.messages ++ drop (length (joined q.messages)) buffer) e ∙ none-given,
+          g.left ∙ ap (λ (q : Planned). q.call.card) q ∙ k.card-kept refused,
+          g.filled ∙ ap (λ (q : Planned). q.call.lent) q ∙ k.lent-kept refused,
+          g.gave ∙ ap (λ (q : Planned). joined q.messages ++ drop (length (joined q.messages)) buffer) q ∙ none-given,
         )
 
     pub plan-told : length s ≡ anchor_bytes → length b ≡ plan_bytes → length buffer ≡ message_room
-        → HostsPlan (host_plan s card i block ranges b buffer) code made left filled gave
-        → HostsPlan (hosted_plan b buffer (planned (cmac_of (anchor_of s).key) (anchor_of s) card i block ranges)) code made left filled gave
+        → HostsPlan (host_plan s card i block ranges b buffer) code e made left filled gave
+        → HostsPlan (hosted_plan s b buffer (planned (cmac_of (anchor_of s).key) (anchor_of s) card i block ranges)) code e made left filled gave
     plan-told l m k g =
-        subst (λ (h : HostPlan). HostsPlan h code made left filled gave)
+        subst (λ (h : HostPlan). HostsPlan h code e made left filled gave)
         (host-plan s card i block ranges b buffer (l, m, k)) g
 
-    pub plan-stored : HostsPlan (host_plan s card i block ranges b buffer) code made left filled gave → code ≡ 0
-        → StandsPlan made (planned (cmac_of (anchor_of s).key) (anchor_of s) card i block ranges).plan
+    pub plan-stored : HostsPlan (host_plan s card i block ranges b buffer) code e made left filled gave → length s ≡ anchor_bytes → code ≡ 0
+        → Stands e (planned (cmac_of (anchor_of s).key) (anchor_of s) card i block ranges).call.anchor
+        × StandsPlan made (planned (cmac_of (anchor_of s).key) (anchor_of s) card i block ranges).plan
     plan-stored =
-        plan-cases (λ h. HostsPlan h code made left filled gave → code ≡ 0 → StandsPlan made o.plan) plan-trip
-        (λ g zero. let z : ◌≡◌ {A = ℕ} 0 refused_length = sym zero ∙ g.coded in absurd (omega arith))
+        plan-cases
+        (λ h. HostsPlan h code e made left filled gave → length s ≡ anchor_bytes → code ≡ 0 → Stands e o.call.anchor × StandsPlan made o.plan)
+        plan-trip (λ g long zero. let z : ◌≡◌ {A = ℕ} 0 refused_length = sym zero ∙ g.coded in absurd (omega arith))
 
-    pub plan-refused : HostsPlan (host_plan s card i block ranges b buffer) code made left filled gave → (code ≡ 0 → ⊥)
-        → (made ≡ b) × (left ≡ card) × (filled ≡ ranges) × (gave ≡ buffer)
+    pub plan-refused : HostsPlan (host_plan s card i block ranges b buffer) code e made left filled gave → (code ≡ 0 → ⊥)
+        → (e ≡ s) × (made ≡ b) × (left ≡ card) × (filled ≡ ranges) × (gave ≡ buffer)
     plan-refused =
         plan-cases
-        (λ h. HostsPlan h code made left filled gave → (code ≡ 0 → ⊥) → (made ≡ b) × (left ≡ card) × (filled ≡ ranges) × (gave ≡ buffer))
-        plan-leaves (λ g d. (g.planned, g.left, g.filled, g.gave))
+        (λ h. HostsPlan h code e made left filled gave → (code ≡ 0 → ⊥) → (e ≡ s) × (made ≡ b) × (left ≡ card) × (filled ≡ ranges) × (gave ≡ buffer))
+        plan-leaves (λ g d. (g.anchored, g.planned, g.left, g.filled, g.gave))
 
 -- The put
 
 -- the root nonce that is stored, or stands already
-root_stands : (s : List ℕ) → length s ≡ anchor_bytes → (r : ℕ) → r < 2 ^ 64 → Stands (with_root s r) (rooted (anchor_of s) r)
+root_stands : (s : List ℕ) → length s ≡ anchor_bytes → (r : ℕ) → r < 2 ^ 64 → Stands (root_moved s r) (rooted (anchor_of s) r)
 root_stands s long r h =
     ⊎_elim
     (λ (e : r ≡ (anchor_of s).root.0).
@@ -125,7 +135,7 @@ root_stands s long r h =
     (equal_or_not r (anchor_of s).root.0)
 
 moved-stands : (s : List ℕ) → length s ≡ anchor_bytes → (r : ℕ) → r < 2 ^ 64 → (b : Bool) →
-    let c = cond b (rooted (anchor_of s) r) (anchor_of s) in Stands (with_root s c.root.0) c
+    let c = cond b (rooted (anchor_of s) r) (anchor_of s) in Stands (root_moved s c.root.0) c
 moved-stands s long r h true = root_stands s long r h
 moved-stands s long r h false =
     rw (eq-eqb (anchor_of s).root.0 (anchor_of s).root.0 refl) (record { long = long; is = refl })
@@ -153,12 +163,12 @@ module _ (s card b : List ℕ) (long : length s ≡ anchor_bytes) (p : Plan) (st
   put-settled = settled-stands (put_answer (anchor_of s) p card u) refl
 
   put-moves : ((hosted_put s b (put (anchor_of s) p card u tag)).anchor ≡ s)
-      ⊎ ((hosted_put s b (put (anchor_of s) p card u tag)).anchor ≡ take 24 s ++ be8 p.root.0)
+      ⊎ ((hosted_put s b (put (anchor_of s) p card u tag)).anchor ≡ with_root s p.root.0)
   unfolding put
   put-moves = go (put_answer (anchor_of s) p card u)
     where
       moved : (c : Bool) → let t = (cond c (rooted (anchor_of s) p.root.0) (anchor_of s)).root.0 in
-          (with_root s t ≡ s) ⊎ (with_root s t ≡ take 24 s ++ be8 p.root.0)
+          (root_moved s t ≡ s) ⊎ (root_moved s t ≡ with_root s p.root.0)
       moved true =
           ⊎_elim (λ (e : p.root.0 ≡ (anchor_of s).root.0). inl (rw (eq-eqb p.root.0 (anchor_of s).root.0 e)))
           (λ (d : p.root.0 ≡ (anchor_of s).root.0 → ⊥). inr (rw (ne_eqb p.root.0 (anchor_of s).root.0 d)))
@@ -166,7 +176,7 @@ module _ (s card b : List ℕ) (long : length s ≡ anchor_bytes) (p : Plan) (st
       moved false = inl (rw (eq-eqb (anchor_of s).root.0 (anchor_of s).root.0 refl))
 
       go : (x : Answer) → let h = hosted_put s b (put_settled x (anchor_of s) p card u tag) in
-          (h.anchor ≡ s) ⊎ (h.anchor ≡ take 24 s ++ be8 p.root.0)
+          (h.anchor ≡ s) ⊎ (h.anchor ≡ with_root s p.root.0)
       go Whole = moved (full (anchor_of s).depth (fill (anchor_of s).depth p u))
       go (Wrong w) = inl refl
       go (Refused r) = inl refl
@@ -186,9 +196,9 @@ module _ (s card b : List ℕ) (long : length s ≡ anchor_bytes) (p : Plan) (st
         )
 
     -- the anchor's bytes are as they were, or have the plan's root nonce
-    pub put-bytes : (e ≡ s) ⊎ (e ≡ take 24 s ++ be8 p.root.0)
+    pub put-bytes : (e ≡ s) ⊎ (e ≡ with_root s p.root.0)
     put-bytes =
-        subst (λ (l : List ℕ). (l ≡ s) ⊎ (l ≡ take 24 s ++ be8 p.root.0)) (sym put-told.anchored) put-moves
+        subst (λ (l : List ℕ). (l ≡ s) ⊎ (l ≡ with_root s p.root.0)) (sym put-told.anchored) put-moves
 
 -- a put keeps the plan's root nonce
 pub put-keeps-root : (a : Anchor) (p : Plan) (card : List ℕ) (u : ℕ) (tag : List ℕ) → (put a p card u tag).plan.root.0 ≡ p.root.0
@@ -209,7 +219,7 @@ module _ (s card b : List ℕ) (u : ℕ) (tag : List ℕ) (code : ℕ) (e made l
   put-leaves g d =
       let no : placed.answer ≡ Whole → ⊥ = λ w. d (g.coded ∙ ap code_of w ∙ whole_code) in
       let f = not-whole placed.answer no in (
-        g.anchored ∙ ap (λ (c : Bool). cond c (with_root s placed.anchor.root.0) s) f,
+        g.anchored ∙ ap (λ (c : Bool). cond c (root_moved s placed.anchor.root.0) s) f,
         g.planned ∙ ap (λ (c : Bool). cond c (take 16 b ++ be8 placed.plan.filled) b) f,
         g.left ∙ (put-unchanged (anchor_of s) (plan_of b) card u tag
             (λ w. no (put-answer (anchor_of s) (plan_of b) card u tag ∙ w))).card-same,
@@ -229,15 +239,15 @@ module _ (s card b : List ℕ) (u : ℕ) (tag : List ℕ) (code : ℕ) (e made l
 pub split-trip : (s card b : List ℕ) → SplitTrip s card b
 split-trip s card b =
     record {
-      plan-stored = λ i block ranges buffer made left filled gave g.
-          plan-stored s card b i block ranges buffer 0 made left filled gave g refl;
+      plan-stored = λ long i block ranges buffer e made left filled gave g.
+          plan-stored s card b i block ranges buffer 0 e made left filled gave g long refl;
       put-stored = λ long p stands u tag t16 code e made left g. put-stored s card b long p stands u tag t16 code e made left g;
-      plan-told = λ long plan-long i block ranges buffer room code made left filled gave g.
-          let t = plan-told s card b i block ranges buffer code made left filled gave long plan-long room g in
+      plan-told = λ long plan-long i block ranges buffer room code e made left filled gave g.
+          let t = plan-told s card b i block ranges buffer code e made left filled gave long plan-long room g in
           (t.coded, t.left, t.filled, t.gave);
       put-told = λ long p stands u tag t16 code e made left g.
           let t = put-told s card b long p stands u tag t16 code e made left g in (t.coded, t.left);
-      plan-refused = λ i block ranges buffer code made left filled gave g d.
-          plan-refused s card b i block ranges buffer code made left filled gave g d;
+      plan-refused = λ i block ranges buffer code e made left filled gave g d.
+          plan-refused s card b i block ranges buffer code e made left filled gave g d;
       put_refused = λ u tag code e made left g d. put_refused s card b u tag code e made left g d;
     }

@@ -1,5 +1,6 @@
 -- The calls for C: the anchor as bytes, the answer as one number.
-use Rattle.std.specs.Prelude.{ℕ, ◌+◌, ◌*◌, ◌^◌, ◌≡◌, Bool, true, cond, ◌&&◌, List, [], ◌∷◌, ◌++◌, eqb, length, take}
+use Rattle.std.specs.Prelude.{ℕ, ◌+◌, ◌*◌, ◌^◌, ◌≡◌, Bool, true, cond, ◌&&◌, List, [], ◌∷◌, eqb, length}
+use Rattle.std.proofs.lemmas.List.Edits.{sets}
 use Rattle.words.specs.Bytes.{part}
 use Rattle.cmac.specs.Cmac.{cmac_of}
 use Rattle.tree.specs.Numbers.{be8}
@@ -13,13 +14,29 @@ unfoldable pub number : List ℕ → ℕ
 number [] = 0
 number (x ∷ xs) = x * 256 ^ length xs + number xs
 
--- how long an anchor is: the key in 16 bytes, then depth and root nonce in 8 each
+-- how long an anchor is: the key in 16 bytes, then depth, root nonce and reserved nonce in 8 each
 abbrev pub anchor_bytes : ℕ
-anchor_bytes = 32
+anchor_bytes = 40
 
--- key, depth and root nonce
+-- key, depth, root nonce and reserved nonce
 unfoldable pub anchor_of : List ℕ → Anchor
-anchor_of bytes = record { key = part bytes 0 16; depth = number (part bytes 16 8); root = record { 0 = number (part bytes 24 8) } }
+anchor_of bytes =
+    record {
+      key = part bytes 0 16;
+      depth = number (part bytes 16 8);
+      root = record { 0 = number (part bytes 24 8) };
+      reserved = record { 0 = number (part bytes 32 8) };
+    }
+
+-- the bytes with another root nonce, with another reserved one, and with those of an anchor
+abbrev pub with_root : List ℕ → ℕ → List ℕ
+with_root bytes t = sets bytes 24 (be8 t)
+
+abbrev pub with_reserved : List ℕ → ℕ → List ℕ
+with_reserved bytes h = sets bytes 32 (be8 h)
+
+abbrev pub with_nonces : List ℕ → Anchor → List ℕ
+with_nonces bytes a = with_root (with_reserved bytes a.reserved.0) a.root.0
 
 -- the number of the answer, plus 256 times its node
 unfoldable pub code_of : Answer → ℕ
@@ -32,12 +49,12 @@ pub record Host : Type 0 where
   pub card : List ℕ
   pub lent : List ℕ
 
--- a call that moves the anchor, where it is accepted, puts the root nonce into the anchor's bytes
+-- a call that moves the anchor, where it is accepted, puts both nonces into the anchor's bytes
 abbrev pub hosted : Bool → List ℕ → Outcome → Host
 hosted moves anchor o =
     record {
       code = code_of o.answer;
-      anchor = cond (moves && is_whole o.answer) (take 24 anchor ++ be8 o.anchor.root.0) anchor;
+      anchor = cond (moves && is_whole o.answer) (with_nonces anchor o.anchor) anchor;
       card = o.card;
       lent = o.lent;
     }

@@ -41,18 +41,18 @@ pub record StandsPlan (bytes : List ℕ) (p : Plan) : Type 0 where
 
 -- Of pat_plan and pat_put_tag that were given s as the anchor, a card, and b as the plan.
 pub record SplitTrip (s card b : List ℕ) : Type 0 where
-  -- an accepted plan leaves bytes that stand for the plan that it made, and any put bytes that stand for the anchor and the plan that it
-  -- hands out
-  pub plan-stored : (i : ℕ) (block ranges buffer made left filled gave : List ℕ)
-      → HostsPlan (host_plan s card i block ranges b buffer) 0 made left filled gave
-      → StandsPlan made (planned (cmac_of (anchor_of s).key) (anchor_of s) card i block ranges).plan
+  -- an accepted plan leaves bytes that stand for the anchor and the plan that it hands out, and so does any put
+  pub plan-stored : length s ≡ anchor_bytes → (i : ℕ) (block ranges buffer e made left filled gave : List ℕ)
+      → HostsPlan (host_plan s card i block ranges b buffer) 0 e made left filled gave →
+      let o = planned (cmac_of (anchor_of s).key) (anchor_of s) card i block ranges in
+      Stands e o.call.anchor × StandsPlan made o.plan
   pub put-stored : length s ≡ anchor_bytes → (p : Plan) → StandsPlan b p → (u : ℕ) (tag : List ℕ) → length tag ≡ tag_bytes
       → (code : ℕ) (e made left : List ℕ) → HostsPut (host_put s b card u tag) code e made left
       → Stands e (put (anchor_of s) p card u tag).anchor × StandsPlan made (put (anchor_of s) p card u tag).plan
   -- the answers are those of the plan and of the put as one number, and card, ranges and messages are as these leave them, the bytes behind
   -- the messages as they were
   pub plan-told : length s ≡ anchor_bytes → length b ≡ plan_bytes → (i : ℕ) (block ranges buffer : List ℕ) → length buffer ≡ message_room
-      → (code : ℕ) (made left filled gave : List ℕ) → HostsPlan (host_plan s card i block ranges b buffer) code made left filled gave →
+      → (code : ℕ) (e made left filled gave : List ℕ) → HostsPlan (host_plan s card i block ranges b buffer) code e made left filled gave →
       let o = planned (cmac_of (anchor_of s).key) (anchor_of s) card i block ranges in
       (code ≡ code_of o.call.answer) × (left ≡ o.call.card) × (filled ≡ o.call.lent)
       × (gave ≡ joined o.messages ++ drop (length (joined o.messages)) buffer)
@@ -60,8 +60,8 @@ pub record SplitTrip (s card b : List ℕ) : Type 0 where
       → (code : ℕ) (e made left : List ℕ) → HostsPut (host_put s b card u tag) code e made left
       → (code ≡ code_of (put (anchor_of s) p card u tag).answer) × (left ≡ (put (anchor_of s) p card u tag).card)
   -- a refused one leaves every byte as it was, whatever the lengths
-  pub plan-refused : (i : ℕ) (block ranges buffer : List ℕ) (code : ℕ) (made left filled gave : List ℕ)
-      → HostsPlan (host_plan s card i block ranges b buffer) code made left filled gave → (code ≡ 0 → ⊥)
-      → (made ≡ b) × (left ≡ card) × (filled ≡ ranges) × (gave ≡ buffer)
+  pub plan-refused : (i : ℕ) (block ranges buffer : List ℕ) (code : ℕ) (e made left filled gave : List ℕ)
+      → HostsPlan (host_plan s card i block ranges b buffer) code e made left filled gave → (code ≡ 0 → ⊥)
+      → (e ≡ s) × (made ≡ b) × (left ≡ card) × (filled ≡ ranges) × (gave ≡ buffer)
   pub put_refused : (u : ℕ) (tag : List ℕ) (code : ℕ) (e made left : List ℕ) → HostsPut (host_put s b card u tag) code e made left
       → (code ≡ 0 → ⊥) → (e ≡ s) × (made ≡ b) × (left ≡ card)

@@ -6,7 +6,7 @@ use Rattle.tree.specs.Numbers.{be8}
 use Rattle.tree.specs.Answer.{is_whole}
 use Rattle.plan.specs.Split.{Planned, planned, joined, message_room, Put, put}
 use Rattle.plan.specs.declared.Plan.{Plan}
-use Rattle.host_bytes.specs.Host.{number, anchor_bytes, anchor_of, code_of, refused_length}
+use Rattle.host_bytes.specs.Host.{number, anchor_bytes, anchor_of, with_root, with_reserved, code_of, refused_length}
 
 -- how long a plan is: the block's number, the root nonce and the filled places in 8 bytes each
 abbrev pub plan_bytes : ℕ
@@ -31,17 +31,19 @@ tag_bytes = 16
 -- what pat_plan answers, and what it leaves of the bytes that it may change
 pub record HostPlan : Type 0 where
   pub code : ℕ
+  pub anchor : List ℕ
   pub plan : List ℕ
   pub card : List ℕ
   pub ranges : List ℕ
   pub messages : List ℕ
 
--- accepted, it stores the plan, and the messages from the first byte of their buffer on
-abbrev pub hosted_plan : List ℕ → List ℕ → Planned → HostPlan
-hosted_plan plan messages o =
+-- accepted, it stores the reserved nonce, the plan, and the messages from the first byte of their buffer on
+abbrev pub hosted_plan : List ℕ → List ℕ → List ℕ → Planned → HostPlan
+hosted_plan anchor plan messages o =
     let ms = joined o.messages in
     record {
       code = code_of o.call.answer;
+      anchor = cond (is_whole o.call.answer) (with_reserved anchor o.call.anchor.reserved.0) anchor;
       plan = cond (is_whole o.call.answer) (bytes_of o.plan) plan;
       card = o.call.card;
       ranges = o.call.lent;
@@ -53,12 +55,13 @@ unfoldable pub host_plan : List ℕ → List ℕ → ℕ → List ℕ → List �
 host_plan anchor card i block ranges plan messages =
     let a = anchor_of anchor in
     cond (eqb (length anchor) anchor_bytes && (eqb (length plan) plan_bytes && eqb (length messages) message_room))
-    (hosted_plan plan messages (planned (cmac_of a.key) a card i block ranges))
-    (record { code = refused_length; plan = plan; card = card; ranges = ranges; messages = messages })
+    (hosted_plan anchor plan messages (planned (cmac_of a.key) a card i block ranges))
+    (record { code = refused_length; anchor = anchor; plan = plan; card = card; ranges = ranges; messages = messages })
 
 -- That pat_plan answered and left everything so. Its contract is this record.
-pub record HostsPlan (h : HostPlan) (code : ℕ) (plan card ranges messages : List ℕ) : Type 0 where
+pub record HostsPlan (h : HostPlan) (code : ℕ) (anchor plan card ranges messages : List ℕ) : Type 0 where
   pub coded : code ≡ h.code
+  pub anchored : anchor ≡ h.anchor
   pub planned : plan ≡ h.plan
   pub left : card ≡ h.card
   pub filled : ranges ≡ h.ranges
@@ -72,8 +75,8 @@ pub record HostPut : Type 0 where
   pub card : List ℕ
 
 -- the anchor's bytes with a root nonce, and as they were where it is theirs
-abbrev pub with_root : List ℕ → ℕ → List ℕ
-with_root anchor t = cond (eqb t (anchor_of anchor).root.0) anchor (take 24 anchor ++ be8 t)
+abbrev pub root_moved : List ℕ → ℕ → List ℕ
+root_moved anchor t = cond (eqb t (anchor_of anchor).root.0) anchor (with_root anchor t)
 
 -- accepted, it stores the filled places, and the root nonce where it moved
 abbrev pub hosted_put : List ℕ → List ℕ → Put → HostPut
@@ -81,7 +84,7 @@ hosted_put anchor plan o =
     let whole = is_whole o.answer in
     record {
       code = code_of o.answer;
-      anchor = cond whole (with_root anchor o.anchor.root.0) anchor;
+      anchor = cond whole (root_moved anchor o.anchor.root.0) anchor;
       plan = cond whole (take 16 plan ++ be8 o.plan.filled) plan;
       card = o.card;
     }

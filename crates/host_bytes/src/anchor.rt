@@ -4,7 +4,7 @@ ghost use Rattle.std.specs.Result.{result_unwrap_or};
 ghost use Rattle.words.specs.Bytes.{part};
 ghost use Rattle.tree.specs.Numbers.{be8};
 ghost use Rattle.tree.specs.Answer.{is_whole, answer_in};
-ghost use Rattle.host_bytes.specs.Host.{anchor_of, number};
+ghost use Rattle.host_bytes.specs.Host.{anchor_of, with_root, with_reserved, with_nonces, number};
 
 use crate::ANCHOR_BYTES;
 use tree::{Anchor, Error, Nonce, numbers};
@@ -27,32 +27,40 @@ pub fn of(bytes: &[u8; ANCHOR_BYTES]) -> Anchor
         key: Block::at(bytes, 0).into(),
         depth: number_at(bytes, 16),
         root: Nonce(number_at(bytes, 24)),
+        reserved: Nonce(number_at(bytes, 32)),
     }
 }
 
 // Puts a root nonce into the bytes.
 pub fn put_root(bytes: &mut [u8; ANCHOR_BYTES], root: Nonce)
-    ensures { bytes.new ≡ take 24 bytes.old ++ be8 root.0 }
+    ensures { bytes.new ≡ with_root bytes.old root.0 }
 {
     numbers::be(root.0).put(bytes, 24);
 }
 
 // The same where the root nonce has moved from another.
 pub fn put_moved(bytes: &mut [u8; ANCHOR_BYTES], from: Nonce, root: Nonce)
-    ensures { bytes.new
-        ≡ cond (eqb root.0 from.0) bytes.old (take 24 bytes.old ++ be8 root.0) }
+    ensures { bytes.new ≡ cond (eqb root.0 from.0) bytes.old (with_root bytes.old root.0) }
 {
     if root != from {
         put_root(bytes, root);
     }
 }
 
-// The same of a call that moves the anchor, where it is accepted.
+// Puts a reserved nonce into the bytes.
+pub fn put_reserved(bytes: &mut [u8; ANCHOR_BYTES], reserved: Nonce)
+    ensures { bytes.new ≡ with_reserved bytes.old reserved.0 }
+{
+    numbers::be(reserved.0).put(bytes, 32);
+}
+
+// Puts both nonces of a call that moves the anchor, where it is accepted.
 pub fn settle(bytes: &mut [u8; ANCHOR_BYTES], moved: Result<Anchor, Error>)
     ensures { bytes.new ≡ cond (is_whole (answer_in moved))
-        (take 24 bytes.old ++ be8 (result_unwrap_or moved (anchor_of bytes.old)).root.0) bytes.old }
+        (with_nonces bytes.old (result_unwrap_or moved (anchor_of bytes.old))) bytes.old }
 {
     if let Ok(anchor) = moved {
+        put_reserved(bytes, anchor.reserved);
         put_root(bytes, anchor.root);
     }
 }

@@ -7,7 +7,7 @@ pub mod code;
 pub mod plan_bytes;
 
 // How long an anchor and a plan are, and what a function answers to one of another length.
-pub const ANCHOR_BYTES: usize = 32;
+pub const ANCHOR_BYTES: usize = 40;
 
 pub const PLAN_BYTES: usize = 24;
 

@@ -1,14 +1,11 @@
 // The plan as bytes.
-ghost use Rattle.std.specs.Prelude.{◌≡◌, cond, ◌++◌, take};
-ghost use Rattle.std.specs.Result.{result_unwrap_or};
+ghost use Rattle.std.specs.Prelude.{◌≡◌, ◌++◌, take};
 ghost use Rattle.tree.specs.Numbers.{be8};
-ghost use Rattle.tree.specs.Answer.{is_whole, answer_in};
-ghost use Rattle.plan.specs.Split.{no_plan};
 ghost use Rattle.host_bytes.specs.Split.{plan_of, bytes_of};
 
 use crate::{PLAN_BYTES, anchor};
 use plan::Plan;
-use tree::{BlockIndex, Error, Nonce, numbers};
+use tree::{BlockIndex, Nonce, numbers};
 use words::Packed;
 
 // The plan that the bytes stand for; no `From`, as the anchor's.
@@ -30,16 +27,6 @@ pub fn put(bytes: &mut [u8; PLAN_BYTES], plan: Plan)
     numbers::be(plan.index.0).put(bytes, 0);
     numbers::be(plan.root.0).put(bytes, 8);
     numbers::be(plan.filled).put(bytes, 16);
-}
-
-// The same of a call that makes a plan, where it is accepted. The anchor's `settle` is alike, but puts 8 bytes of 32, of another type.
-pub fn settle(bytes: &mut [u8; PLAN_BYTES], made: Result<Plan, Error>)
-    ensures { bytes.new
-        ≡ cond (is_whole (answer_in made)) (bytes_of (result_unwrap_or made no_plan)) bytes.old }
-{
-    if let Ok(plan) = made {
-        put(bytes, plan);
-    }
 }
 
 // Puts the filled places into the bytes.

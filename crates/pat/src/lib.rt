@@ -1,6 +1,6 @@
 // The calls for C, which the static library pat_c exports: format, read, write, check, wipe, a write's plan and the put of a tag, and the
-// write on an anchor in its place. A slice passes as a pointer and a length. The anchor is 32 bytes: key, depth and root nonce, the numbers
-// in eight bytes each, big-endian; the write in place has it as a struct. A plan is 24 bytes: block number, new root nonce and filled
+// write on an anchor in its place. A slice passes as a pointer and a length. The anchor is 40 bytes: key, depth, root nonce and reserved
+// nonce, the numbers in eight bytes each, big-endian; the write in place has it as a struct. A plan is 24 bytes: block number, new root nonce and filled
 // places, in the same way. A plan's messages have 656 bytes at every depth, a tag 16. Since C calls, the answer is one number: that of the
 // refusal plus 256 times the node, 0 when accepted. It leaves out how often the cipher was called.
 #![tactic(auto)]
@@ -14,7 +14,7 @@ ghost use Rattle.host_bytes.specs.Split.{host_plan, HostsPlan, host_put, HostsPu
 use host_bytes::{REFUSED_LENGTH, anchor, code};
 use tree::{Anchor, BlockIndex, Error};
 
-// Formats the card, and sets the anchor's root nonce to 0.
+// Formats the card, and sets the anchor's nonces to 0.
 #[unsafe(no_mangle)]
 #[tactic(auto, unfolding(host_bytes::specs::Host::host_format))]
 pub extern "C" fn pat_format(anchor: &mut [u8], card: &mut [u8]) -> u64
@@ -43,7 +43,7 @@ pub extern "C" fn pat_read(anchor: &[u8], card: &[u8], index: u64, buffer: &mut 
     code::of(calls::read(given, card, BlockIndex(index), buffer).value)
 }
 
-// Writes a block, and puts the new root nonce into the anchor.
+// Writes a block, and puts the new nonces into the anchor.
 #[unsafe(no_mangle)]
 #[tactic(auto, unfolding(host_bytes::specs::Host::host_call))]
 pub extern "C" fn pat_write(
@@ -79,7 +79,7 @@ pub extern "C" fn pat_check(anchor: &[u8], card: &[u8]) -> u64
     code::of(calls::check(given, card).value)
 }
 
-// Empties the card under the same key, and puts the new root nonce into the anchor.
+// Empties the card under the same key, and puts the new nonces into the anchor.
 #[unsafe(no_mangle)]
 #[tactic(auto, unfolding(host_bytes::specs::Host::host_call))]
 pub extern "C" fn pat_wipe(anchor: &mut [u8], card: &mut [u8]) -> u64
@@ -116,10 +116,11 @@ pub extern "C" fn pat_write_in_place(
     code::of(answer)
 }
 
-// Plans a write whose tags come singly: puts its labels on the card, its ranges, the plan and the messages into their buffers.
+// Plans a write whose tags come singly: puts its labels on the card, its ranges, the plan and the messages into their buffers, and the
+// reserved nonce into the anchor.
 #[unsafe(no_mangle)]
 pub extern "C" fn pat_plan(
-    anchor: &[u8],
+    anchor: &mut [u8],
     card: &mut [u8],
     index: u64,
     block: &[u8],
@@ -128,9 +129,9 @@ pub extern "C" fn pat_plan(
     messages: &mut [u8],
 ) -> u64
     ensures { HostsPlan
-        (host_plan anchor.now card.old index block.now ranges.old
+        (host_plan anchor.old card.old index block.now ranges.old
         plan.old messages.old)
-        result plan.new card.new ranges.new messages.new }
+        result anchor.new plan.new card.new ranges.new messages.new }
 {
     host_split::plan(anchor, card, index, block, ranges, plan, messages)
 }

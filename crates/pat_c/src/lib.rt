@@ -72,7 +72,7 @@ pub extern "C" fn pat_write_in_place(
 
 #[unsafe(no_mangle)]
 pub extern "C" fn pat_plan(
-    anchor: &[u8],
+    anchor: &mut [u8],
     card: &mut [u8],
     index: u64,
     block: &[u8],
@@ -81,9 +81,9 @@ pub extern "C" fn pat_plan(
     messages: &mut [u8],
 ) -> u64
     ensures { HostsPlan
-        (host_plan anchor.now card.old index block.now ranges.old
+        (host_plan anchor.old card.old index block.now ranges.old
         plan.old messages.old)
-        result plan.new card.new ranges.new messages.new }
+        result anchor.new plan.new card.new ranges.new messages.new }
 {
     pat::pat_plan(anchor, card, index, block, ranges, plan, messages)
 }

@@ -12,12 +12,12 @@ use lib.ListN.{length}
 use Rattle.tree.specs.Nodes.{path_node, path}
 use Rattle.tree.specs.Labels.{Labels, message}
 use Rattle.tree.specs.Card.{written}
-use Rattle.tree.specs.Calls.{write, rooted, Outcome, answer_of}
+use Rattle.tree.specs.Calls.{write, rooted, raise, renew, Outcome, answer_of}
 use Rattle.tree.specs.declared.Anchor.{Anchor}
 use Rattle.tree.specs.Answer.{Whole}
 use Rattle.tree.proofs.NodeLaws.{path-pairs}
 use Rattle.tree.proofs.CardLaws.{length-laid}
-use Rattle.tree.proofs.LimitLaws.{Writes}
+use Rattle.tree.proofs.LimitLaws.{Writes, raised-sound}
 use Rattle.tree.proofs.CallLaws.{accepted, outcome-done}
 use Rattle.plan.specs.Places.{plan_nodes, filled_at, full}
 use Rattle.plan.specs.Split.{given, Planned, planned}
@@ -77,13 +77,14 @@ module _ (F : List ℕ → List ℕ) (F16 : (m : List ℕ) → length (F m) ≡ 
   abbrev n : ℕ
   n = a.depth
 
+  -- the new root nonce
   abbrev t : ℕ
-  t = a.root.0
+  t = a.reserved.0 + a.depth
 
   abbrev o : Planned
   o = planned F a card i block ranges
 
-  ok : Writes a.depth a.root.0 card i block ranges
+  ok : Writes a card i block ranges
   ok = (accepted F a card (write i block ranges) whole).limits-passed
 
   -- After the plan
@@ -102,43 +103,43 @@ module _ (F : List ℕ → List ℕ) (F16 : (m : List ℕ) → length (F m) ≡ 
       ⊎_elim (λ (e : full n o.plan ≡ true). contrary (full_is n o.plan e u k) (nothing-filled u))
       (λ (e : full n o.plan ≡ false). e) (truth (full n o.plan))
 
-  pub begun-runs : Runs a i (t + n) (begun o)
+  pub begun-runs : Runs (raise a) i t (begun o)
   begun-runs =
       record {
         index_is = index_is;
         root_is = ap (λ (q : Planned). q.plan.root.0) (planned-done F a card i block ranges whole);
         anchored =
             ap (λ (q : Planned). q.call.anchor) (planned-done F a card i block ranges whole)
-            ∙ sym (ap (λ (b : Bool). cond b (rooted a (t + n)) a) not_full);
+            ∙ sym (ap (λ (b : Bool). cond b (rooted (raise a) t) (raise a)) not_full);
       }
 
   -- Any puts on any cards
 
   -- the anchor is the new one exactly where every place is filled
   pub anchor-after : (xs : List PutStep)
-      → (after_all_puts (begun o) xs).anchor ≡ cond (full n (after_all_puts (begun o) xs).plan) (rooted a (t + n)) a
-  anchor-after xs = (runs-all a i (t + n) xs (begun o) begun-runs).anchored
+      → (after_all_puts (begun o) xs).anchor ≡ cond (full n (after_all_puts (begun o) xs).plan) (rooted (raise a) t) (raise a)
+  anchor-after xs = (runs-all (raise a) i t xs (begun o) begun-runs).anchored
 
   pub filled-anchor : (xs : List PutStep) → full n (after_all_puts (begun o) xs).plan ≡ true
-      → (after_all_puts (begun o) xs).anchor ≡ rooted a (t + n)
-  filled-anchor xs e = anchor-after xs ∙ ap (λ (b : Bool). cond b (rooted a (t + n)) a) e
+      → (after_all_puts (begun o) xs).anchor ≡ renew a
+  filled-anchor xs e = anchor-after xs ∙ ap (λ (b : Bool). cond b (rooted (raise a) t) (raise a)) e
 
   -- a plan that waits for no tag more is full
   pub waits-none : (xs : List PutStep) → ((u : ℕ) → Waits n (after_all_puts (begun o) xs).plan u → ⊥) → full n (after_all_puts (begun o) xs).plan ≡ true
   waits-none xs free =
       let q = (after_all_puts (begun o) xs).plan in
-      let same = (runs-all a i (t + n) xs (begun o) begun-runs).index_is in
+      let same = (runs-all (raise a) i t xs (begun o) begun-runs).index_is in
       none-awaited n q (subst (λ (j : ℕ). j < 2 ^ n) (sym same) ok.inside) (λ u k. free u (awaited-waits n q u k))
 
   -- right tags on untouched cards leave the card of the plain write, whatever refused puts stand among them
   pub filled-card : (xs : List PutStep) → full n (after_all_puts (begun o) xs).plan ≡ true → EachPut (PutRight F o.messages) (begun o) xs
-      → EachPut PutUntouched (begun o) xs → (after_all_puts (begun o) xs).left ≡ written F n t t card i block
+      → EachPut PutUntouched (begun o) xs → (after_all_puts (begun o) xs).left ≡ written F n a.root.0 a.reserved.0 card i block
   filled-card xs e rights untouched =
       let L = labels_of a card i block in
-      let k = ran F a i (t + n) L o.messages (given-each F a card i block ranges whole) xs (begun o) begun-runs in
-      let same = (runs-all a i (t + n) xs (begun o) begun-runs).index_is in
+      let k = ran F (raise a) i t L o.messages (given-each F a card i block ranges whole) xs (begun o) begun-runs in
+      let same = (runs-all (raise a) i t xs (begun o) begun-runs).index_is in
       k.left_is rights untouched ∙ ap (tags_put n (λ u. F (message L u)) k.nodes) (planned-card F a card i block ranges whole)
-      ∙ written-parts n t t i card block ok.sound.full ok.inside ok.long F F16 k.nodes k.among
+      ∙ written-parts n a.root.0 a.reserved.0 i card block ok.sound.full ok.inside ok.long F F16 k.nodes k.among
       (λ w m.
       ⊎_elim (λ (q : filled_at n o.plan w ≡ true). contrary q (nothing-filled w)) (λ (q : Memᴰ w k.nodes). q)
       (k.covered w m
@@ -157,7 +158,7 @@ module _ (F : List ℕ → List ℕ) (F16 : (m : List ℕ) → length (F m) ≡ 
     in-order : map (λ (x : PutStep). x.node) puts ≡ us
     in-order = turns-nodes M us (begun o)
 
-    waiting : Waiting a i (t + n) ok.inside (begun o) us
+    waiting : Waiting (raise a) i t ok.inside (begun o) us
     waiting =
         record {
           among = order.among;
@@ -165,12 +166,12 @@ module _ (F : List ℕ → List ℕ) (F16 : (m : List ℕ) → length (F m) ≡ 
           others = λ u m. inr (order.all u m);
           apart = order.apart;
           sound =
-              sound-length ok.sound
+              sound-length (raised-sound ok.sound)
               (ap length (planned-card F a card i block ranges whole) ∙ length-laid n (labels_of a card i block) (path n i) card);
         }
 
     in-turn : EachPut Placed (begun o) puts × (full n (ends F a card i block ranges us).plan ≡ true)
-    in-turn = turns a i (t + n) ok.inside M us (begun o) begun-runs waiting
+    in-turn = turns (raise a) i t ok.inside M us (begun o) begun-runs waiting
 
     -- so there are such puts: accepted, right, untouched, and they fill the plan
     pub turns-placed : EachPut Placed (begun o) puts

@@ -159,7 +159,7 @@ message_of g = g.message
 
 -- the labels of the write
 abbrev pub labels_of : Anchor → List ℕ → ℕ → List ℕ → Labels
-labels_of a card i block = written_labels a.depth a.root.0 a.root.0 card i block
+labels_of a card i block = written_labels a.depth a.root.0 a.reserved.0 card i block
 
 pub nodes-given : (L : Labels) (us : List ℕ) → map (λ (g : Given). g.node) (map (given L) us) ≡ us
 nodes-given L [] = refl
@@ -178,7 +178,7 @@ module _ (F : List ℕ → List ℕ) (a : Anchor) (card : List ℕ) (i : ℕ) (b
   pub messages-are : (planned F a card i block ranges).messages ≡ map gave (plan_nodes a.depth i)
   messages-are = ap (λ (o : Planned). o.messages) (planned-done F a card i block ranges whole)
 
-  ok : Writes a.depth a.root.0 card i block ranges
+  ok : Writes a card i block ranges
   ok = (accepted F a card (write i block ranges) whole).limits-passed
 
   pub given-for : (g : Given) → Memᴰ g (planned F a card i block ranges).messages → GivenFor a card i block g
@@ -218,15 +218,15 @@ module _ (F : List ℕ → List ℕ) (a : Anchor) (card : List ℕ) (i : ℕ) (b
   pub planned-card : (planned F a card i block ranges).call.card ≡ laid a.depth (labels_of a card i block) (path a.depth i) card
   planned-card = ap (λ (o : Planned). o.call.card) (planned-done F a card i block ranges whole)
 
-  pub planned-labels : Labelled a.depth (a.root.0 + a.depth) (planned F a card i block ranges).call.card (labels_of a card i block)
+  pub planned-labels : Labelled a.depth (a.reserved.0 + a.depth) (planned F a card i block ranges).call.card (labels_of a card i block)
   planned-labels =
-      subst (λ (c : List ℕ). Labelled a.depth (a.root.0 + a.depth) c (labels_of a card i block)) (sym planned-card)
-      (plan-labels a.depth a.root.0 a.root.0 i card block ok.sound.deep ok.sound.full ok.inside ok.long)
+      subst (λ (c : List ℕ). Labelled a.depth (a.reserved.0 + a.depth) c (labels_of a card i block)) (sym planned-card)
+      (plan-labels a.depth a.root.0 a.reserved.0 i card block ok.sound.deep ok.sound.full ok.inside ok.long)
 
   pub planned-tags : (u : ℕ) → IsNode a.depth u → tag a.depth (planned F a card i block ranges).call.card u ≡ tag a.depth card u
   planned-tags u h =
       ap (λ (c : List ℕ). tag a.depth c u) planned-card
-      ∙ plan-tags a.depth a.root.0 a.root.0 i card block ok.sound.deep ok.sound.full ok.inside ok.long u h
+      ∙ plan-tags a.depth a.root.0 a.reserved.0 i card block ok.sound.deep ok.sound.full ok.inside ok.long u h
 
   -- the ranges are the write's
   pub planned-lent : (planned F a card i block ranges).call.lent ≡ (outcome F a card (write i block ranges)).lent

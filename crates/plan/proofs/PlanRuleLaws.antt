@@ -12,7 +12,7 @@ use Rattle.tree.specs.Nodes.{path_node}
 use Rattle.tree.specs.Labels.{Labels, message, labels}
 use Rattle.tree.specs.Card.{written, first_wrong}
 use Rattle.tree.specs.Limits.{first_failing}
-use Rattle.tree.specs.Calls.{Call, write, limits, checks, verdict, Outcome, answer_of, checked_by, outcome}
+use Rattle.tree.specs.Calls.{Call, write, limits, checks, verdict, Outcome, raise, answer_of, checked_by, outcome}
 use Rattle.tree.specs.declared.Anchor.{Anchor}
 use Rattle.tree.specs.Answer.{Whole, Wrong}
 use Rattle.tree.specs.declared.Refusal.{Refusal}
@@ -46,10 +46,10 @@ module _ (F : List ℕ → List ℕ) (F16 : (m : List ℕ) → length (F m) ≡ 
     abbrev o : Planned
     o = planned F a card i block ranges
 
-    ok : Writes a.depth a.root.0 card i block ranges
+    ok : Writes a card i block ranges
     ok = (accepted F a card (write i block ranges) whole).limits-passed
 
-    left_is : (outcome F a card (write i block ranges)).card ≡ written F a.depth a.root.0 a.root.0 card i block
+    left_is : (outcome F a card (write i block ranges)).card ≡ written F a.depth a.root.0 a.reserved.0 card i block
     left_is = ap (λ (q : Outcome). q.card) (outcome-done F a card (write i block ranges) whole)
 
     pub nodes-are : nodes_of (planned F a card i block ranges).messages ≡ plan_nodes a.depth i
@@ -63,23 +63,23 @@ module _ (F : List ℕ → List ℕ) (F16 : (m : List ℕ) → length (F m) ≡ 
 
     -- the message of a node on the card that the write leaves
     on-card : (w : ℕ) → IsNode n w
-        → message (labels_of a card i block) w ≡ message (labels n (a.root.0 + n) (outcome F a card (write i block ranges)).card) w
+        → message (labels_of a card i block) w ≡ message (labels n (a.reserved.0 + n) (outcome F a card (write i block ranges)).card) w
     on-card w h =
-        sym (written-message F F16 n ok.sound.deep a.root.0 a.root.0 card i block ok.sound.full ok.inside ok.long w h)
-        ∙ ap (λ (c : List ℕ). message (labels n (a.root.0 + n) c) w) (sym left_is)
+        sym (written-message F F16 n ok.sound.deep a.root.0 a.reserved.0 card i block ok.sound.full ok.inside ok.long w h)
+        ∙ ap (λ (c : List ℕ). message (labels n (a.reserved.0 + n) c) w) (sym left_is)
 
     abbrev L : Labels
     L = labels_of a card i block
 
     sized : Sized a.depth (labels_of a card i block)
     sized =
-        new-sized a.depth a.root.0 i block ok.inside (labels a.depth a.root.0 card) ok.long
+        new-sized a.depth a.reserved.0 i block ok.inside (labels a.depth a.root.0 card) ok.long
         (labels-sized a.depth a.root.0 card ok.sound.full)
 
     root-long : length (labels_of a card i block 1) ≡ 8
     root-long =
-        ap length (new-root a.depth a.root.0 i block ok.inside (labels a.depth a.root.0 card) ok.sound.deep)
-        ∙ length-be 8 (a.root.0 + a.depth)
+        ap length (new-root a.depth a.reserved.0 i block ok.inside (labels a.depth a.root.0 card) ok.sound.deep)
+        ∙ length-be 8 (a.reserved.0 + a.depth)
 
     -- the children of a node of the path
     half_is : (y : ℕ) → y < n → path_node n i (suc y) / 2 ≡ path_node n i y
@@ -92,7 +92,7 @@ module _ (F : List ℕ → List ℕ) (F16 : (m : List ℕ) → length (F m) ≡ 
     size-here y h w e = twin-size n (path_node n i (suc y)) w ok.sound.deep (e ∙ sym (half_is y h))
 
     -- what its plan is
-    made : o.plan ≡ record { index = record { 0 = i }; root = record { 0 = a.root.0 + n }; filled = 0 }
+    made : o.plan ≡ record { index = record { 0 = i }; root = record { 0 = a.reserved.0 + n }; filled = 0 }
     made = ap (λ (q : Planned). q.plan) (planned-done F a card i block ranges whole)
 
     index_is : o.plan.index.0 ≡ i
@@ -101,13 +101,13 @@ module _ (F : List ℕ → List ℕ) (F16 : (m : List ℕ) → length (F m) ≡ 
     laid_so : Laid F a card i block ranges (planned F a card i block ranges)
     laid_so =
         record {
-          anchor-kept = ap (λ (q : Planned). q.call.anchor) (planned-done F a card i block ranges whole);
+          raised = ap (λ (q : Planned). q.call.anchor) (planned-done F a card i block ranges whole);
           labels_new = λ u h.
-              sym (labels-below n (a.root.0 + n) o.call.card u h.low)
+              sym (labels-below n (a.reserved.0 + n) o.call.card u h.low)
               ∙ planned-labels F a card i block ranges whole u (inr h)
-              ∙ sym (written-labels F F16 n ok.sound.deep a.root.0 a.root.0 card i block ok.sound.full ok.inside
+              ∙ sym (written-labels F F16 n ok.sound.deep a.root.0 a.reserved.0 card i block ok.sound.full ok.inside
               ok.long u (inr h))
-              ∙ labels-below n (a.root.0 + n) (written F n a.root.0 a.root.0 card i block) u h.low
+              ∙ labels-below n (a.reserved.0 + n) (written F n a.root.0 a.reserved.0 card i block) u h.low
               ∙ ap (λ (c : List ℕ). label n c u) (sym left_is);
           tags-kept = planned-tags F a card i block ranges whole;
           ranges-new = planned-lent F a card i block ranges whole;
@@ -174,7 +174,7 @@ module _ (F : List ℕ → List ℕ) (F16 : (m : List ℕ) → length (F m) ≡ 
           ap (λ (l : List (List ℕ)). let o : Planned = record {
             call = record {
               answer = Whole;
-              anchor = a;
+              anchor = raise a;
               card = (plan_done F a card i block ranges).call.card;
               lent = (plan_done F a card i block ranges).call.lent;
               counted = l;

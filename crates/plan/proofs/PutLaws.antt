@@ -39,7 +39,7 @@ pub record Unchanged (a : Anchor) (p : Plan) (card : List ℕ) (o : Put) : Type 
 
 module _ (a : Anchor) (p : Plan) (card : List ℕ) (u : ℕ) where
   -- accepted exactly where limits 1 to 3 are passed and the plan waits for the node
-  pub put_in : put_answer a p card u ≡ Whole → Sound a.depth a.root.0 card × Awaited a.depth p u
+  pub put_in : put_answer a p card u ≡ Whole → Sound a card × Awaited a.depth p u
   unfolding put_answer
   put_in e =
       let both = passed-both (first_limits a (length card)) (place_limit a.depth p u ∷ []) (verdict-whole _ none e).0 in
@@ -47,11 +47,11 @@ module _ (a : Anchor) (p : Plan) (card : List ℕ) (u : ℕ) where
       (first-passed a card both.0, awaited a.depth p u (not-false (awaits a.depth p u) last.0))
 
   -- a check has these limits alone
-  pass-first : Sound a.depth a.root.0 card → first_failing (first_limits a (length card)) ≡ none
+  pass-first : Sound a card → first_failing (first_limits a (length card)) ≡ none
   unfolding limits
   pass-first s = (passed-both (first_limits a (length card)) [] (pass_all a card check s)).0
 
-  pub put-accept : Sound a.depth a.root.0 card → Awaited a.depth p u → put_answer a p card u ≡ Whole
+  pub put-accept : Sound a card → Awaited a.depth p u → put_answer a p card u ≡ Whole
   unfolding put_answer
   put-accept s h =
       ap (λ (r : Option Refusal). verdict r none)
@@ -66,7 +66,7 @@ module _ (a : Anchor) (p : Plan) (card : List ℕ) (u : ℕ) where
   put_first r e =
       ap (λ (s : Option Refusal). verdict s none) (stop-first (first_limits a (length card)) (place_limit a.depth p u ∷ []) r e)
 
-  pub put-nine : Sound a.depth a.root.0 card → awaits a.depth p u ≡ false → put_answer a p card u ≡ Refused NotAwaited
+  pub put-nine : Sound a card → awaits a.depth p u ≡ false → put_answer a p card u ≡ Refused NotAwaited
   unfolding put_answer
   put-nine s e =
       ap (λ (r : Option Refusal). verdict r none)

@@ -20,8 +20,16 @@ use Rattle.plan.specs.Orders.{Apart, in_turn}
 use Rattle.plan.proofs.PlaceLaws.{Awaited, fill-same, fill-other, is-full}
 use Rattle.plan.proofs.PutLaws.{put-accept, put-answer, went, PutMove, stood, took, put-move, Runs, runs-old, runs-step}
 
-pub sound-length : {n t : ℕ} {c d : List ℕ} → Sound n t c → length d ≡ length c → Sound n t d
-sound-length s e = record { deep = s.deep; shallow = s.shallow; multiple = s.multiple; full = e ∙ s.full }
+pub sound-length : {a : Anchor} {c d : List ℕ} → Sound a c → length d ≡ length c → Sound a d
+sound-length s e =
+    record {
+      deep = s.deep;
+      shallow = s.shallow;
+      multiple = s.multiple;
+      reserved_multiple = s.reserved_multiple;
+      within = s.within;
+      full = e ∙ s.full;
+    }
 
 abbrev turn : (ℕ → List ℕ) → Going → ℕ → PutStep
 turn M g u = record { card = g.left; node = u; tag = M u }
@@ -58,7 +66,7 @@ module _ (a : Anchor) (i r : ℕ) (inside : i < 2 ^ a.depth) where
     pub unfilled : (u : ℕ) → Memᴰ u us → filled_at a.depth g.plan u ≡ false
     pub others : (u : ℕ) → Memᴰ u (plan_nodes a.depth i) → (filled_at a.depth g.plan u ≡ true) ⊎ Memᴰ u us
     pub apart : Apart us
-    pub sound : Sound a.depth a.root.0 g.left
+    pub sound : Sound a g.left
 
   module _ (M : ℕ → List ℕ) (g : Going) (k : Runs a i r g) (u : ℕ) (us : List ℕ) (h : Waiting g (u ∷ us)) where
     in-plan : (w : ℕ) → Memᴰ w (plan_nodes n i) → Memᴰ w (plan_nodes n g.plan.index.0)

@@ -8,7 +8,7 @@ use Rattle.tree.specs.Nodes.{path_node, pairs}
 use Rattle.tree.specs.Labels.{message, labels}
 use Rattle.tree.specs.Limits.{first_failing}
 use Rattle.tree.specs.Answer.{refusal_number}
-use Rattle.tree.specs.Calls.{write, first_limits, tagged, rooted, outcome}
+use Rattle.tree.specs.Calls.{write, first_limits, tagged, rooted, raise, outcome}
 use Rattle.tree.specs.declared.Anchor.{Anchor}
 use Rattle.tree.specs.declared.Refusal.{Refusal}
 use Rattle.tree.specs.declared.Refusal.TheVariants.{NotAwaited}
@@ -37,8 +37,8 @@ nodes_of ms = map (λ (g : Given). g.node) ms
 module _ (F : List ℕ → List ℕ) (a : Anchor) (card : List ℕ) (i : ℕ) (block ranges : List ℕ) where
   -- Of an accepted plan o.
   pub record Laid (o : Planned) : Type 0 where
-    -- the anchor is the old one
-    pub anchor-kept : o.call.anchor ≡ a
+    -- "a plan hands back the anchor with H raised" (T-05)
+    pub raised : o.call.anchor ≡ raise a
     -- "fills in serials, block and ranges": every label and the ranges are the plain write's, and no tag is new
     pub labels_new : (u : ℕ) → IsNode a.depth u
         → label a.depth o.call.card u ≡ label a.depth (outcome F a card (write i block ranges)).card u
@@ -51,19 +51,19 @@ module _ (F : List ℕ → List ℕ) (a : Anchor) (card : List ℕ) (i : ℕ) (b
     pub for-pairs : (u : ℕ) → Memᴰ u (nodes_of o.messages) → Memᴰ u (pairs a.depth i)
     pub pairs-for : (u : ℕ) → Memᴰ u (pairs a.depth i) → Memᴰ u (nodes_of o.messages)
     pub right : (g : Given) → Memᴰ g o.messages
-        → g.message ≡ message (labels a.depth (a.root.0 + a.depth) (outcome F a card (write i block ranges)).card) g.node
+        → g.message ≡ message (labels a.depth (a.reserved.0 + a.depth) (outcome F a card (write i block ranges)).card) g.node
     -- end to end, those of level y + 1 stand from byte 34 y on, that of the left child first
     pub left-stands : (y : ℕ) → y < a.depth →
         let u = 2 * path_node a.depth i y in
         part (joined o.messages) (34 * y) (size a.depth u + 9)
-        ≡ message (labels a.depth (a.root.0 + a.depth) (outcome F a card (write i block ranges)).card) u
+        ≡ message (labels a.depth (a.reserved.0 + a.depth) (outcome F a card (write i block ranges)).card) u
     pub right-stands : (y : ℕ) → y < a.depth →
         let u = 2 * path_node a.depth i y + 1 in
         part (joined o.messages) (34 * y + (size a.depth u + 9)) (size a.depth u + 9)
-        ≡ message (labels a.depth (a.root.0 + a.depth) (outcome F a card (write i block ranges)).card) u
+        ≡ message (labels a.depth (a.reserved.0 + a.depth) (outcome F a card (write i block ranges)).card) u
     pub all-bytes : length (joined o.messages) ≡ 34 * a.depth + 112
     -- the plan has the block's number and the new root nonce, and no tag; it waits for the tag of each of them, and for no other
-    pub made : o.plan ≡ record { index = record { 0 = i }; root = record { 0 = a.root.0 + a.depth }; filled = 0 }
+    pub made : o.plan ≡ record { index = record { 0 = i }; root = record { 0 = a.reserved.0 + a.depth }; filled = 0 }
     pub waits : (u : ℕ) → Memᴰ u (nodes_of o.messages) → Waits a.depth o.plan u
     pub waits-only : (u : ℕ) → Waits a.depth o.plan u → Memᴰ u (nodes_of o.messages)
     -- it counts what it checks: with the messages that the engines tag, this is what the write counts

@@ -8,7 +8,7 @@ use Rattle.tree.specs.Labels.{Labels, message, written_labels}
 use Rattle.tree.specs.Card.{laid}
 use Rattle.tree.specs.Ranges.{listed}
 use Rattle.tree.specs.Limits.{Limit, first_failing}
-use Rattle.tree.specs.Calls.{write, first_limits, verdict, Outcome, Reports, rooted, answer_of, checked_by, settled}
+use Rattle.tree.specs.Calls.{write, first_limits, verdict, Outcome, Reports, rooted, raise, answer_of, checked_by, settled}
 use Rattle.tree.specs.declared.Anchor.{Anchor}
 use Rattle.tree.specs.Answer.{Answer}
 use Rattle.tree.specs.Answer.{Whole, Wrong, Refused}
@@ -38,21 +38,20 @@ no_plan = record { index = record { 0 = 65536 }; root = record { 0 = 0 }; filled
 
 module _ (F : List ℕ → List ℕ) where
   -- Accepted, it leaves the write's card without its tags: the path has the labels of the write, and the range buffer its ranges. The
-  -- anchor is the old one, and the messages counted are those checked: others make the tags.
+  -- anchor has the write's nonces reserved and the old root nonce, and the messages counted are those checked: others make the tags.
   abbrev pub plan_done : Anchor → List ℕ → ℕ → List ℕ → List ℕ → Planned
   plan_done a card i block ranges =
       let n = a.depth in
-      let t = a.root.0 in
-      let L = written_labels n t t card i block in
+      let L = written_labels n a.root.0 a.reserved.0 card i block in
       record {
         call = record {
           answer = Whole;
-          anchor = a;
+          anchor = raise a;
           card = laid n L (path n i) card;
           lent = listed n i ranges;
           counted = checked_by F a card (write i block ranges);
         };
-        plan = record { index = record { 0 = i }; root = record { 0 = t + n }; filled = 0 };
+        plan = record { index = record { 0 = i }; root = (raise a).reserved; filled = 0 };
         messages = map (given L) (plan_nodes n i);
       }
 

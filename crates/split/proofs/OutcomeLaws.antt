@@ -15,7 +15,7 @@ use Rattle.tree.specs.Labels.{Labels, labels, written_labels}
 use Rattle.tree.specs.Card.{laid, first_wrong}
 use Rattle.tree.specs.Ranges.{listed}
 use Rattle.tree.specs.Limits.{first_failing}
-use Rattle.tree.specs.Calls.{Call, write, limits, checks, verdict, total, rooted, answer_of, checked_by}
+use Rattle.tree.specs.Calls.{Call, write, limits, checks, verdict, total, rooted, raise, answer_of, checked_by}
 use Rattle.tree.specs.declared.Anchor.{Anchor}
 use Rattle.tree.specs.declared.Refusal.{Refusal}
 use Rattle.tree.specs.declared.Error.{Error}
@@ -47,11 +47,11 @@ module _ (a : Anchor) (card : List ℕ) (i : ℕ) (block ranges buffer : List �
   abbrev c : Call
   c = write i block ranges
 
-  abbrev Told : Answer → ℕ → Plan → List ℕ → List ℕ → List ℕ → Type 0
-  Told x k p left lent messages = Plans once each (planned F a card i block ranges) buffer x k a p left lent messages
+  abbrev Told : Answer → ℕ → Anchor → Plan → List ℕ → List ℕ → List ℕ → Type 0
+  Told x k b p left lent messages = Plans once each (planned F a card i block ranges) buffer x k b p left lent messages
 
   -- a limit refuses it
-  pub plan-limited : (r : Refusal) → tested (limits a card c) ≡ Err r → Told (Refused r) 0 no_plan card ranges buffer
+  pub plan-limited : (r : Refusal) → tested (limits a card c) ≡ Err r → Told (Refused r) 0 a no_plan card ranges buffer
   unfolding planned answer_of joined
   plan-limited r e =
       rw (this_fails (limits a card c) e) (record {
@@ -74,7 +74,7 @@ module _ (a : Anchor) (card : List ℕ) (i : ℕ) (block ranges buffer : List �
   -- a wrong tag does
   pub plan-wrong : (x : Error) (k : ℕ) → first_failing (limits a card c) ≡ none
       → refused_as x ≡ verdict none (first_wrong F a.depth a.root.0 card (checks a.depth c))
-      → k ≡ once + total each (checked_by F a card c) → Told (refused_as x) k no_plan card ranges buffer
+      → k ≡ once + total each (checked_by F a card c) → Told (refused_as x) k a no_plan card ranges buffer
   unfolding joined
   plan-wrong (WrongTag u) k e v q =
       rw (settles (Wrong u) e v) (record {
@@ -85,48 +85,48 @@ module _ (a : Anchor) (card : List ℕ) (i : ℕ) (block ranges buffer : List �
   plan-wrong (Limit r) k e v q = absurd (never r (first_wrong F a.depth a.root.0 card (checks a.depth c)) v)
 
   -- it is whole
-  pub plan-whole : (k : ℕ) (p : Plan) (card' lent messages : List ℕ) →
+  pub plan-whole : (k : ℕ) (b : Anchor) (p : Plan) (card' lent messages : List ℕ) →
       let n = a.depth in
-      let t = a.root.0 in
-      let L = written_labels n t t card i block in
+      let L = written_labels n a.root.0 a.reserved.0 card i block in
       first_failing (limits a card c) ≡ none
-      → Whole ≡ verdict none (first_wrong F n t card (checks n c))
+      → Whole ≡ verdict none (first_wrong F n a.root.0 card (checks n c))
       → k ≡ once + total each (checked_by F a card c)
-      → p ≡ record { index = record { 0 = i }; root = record { 0 = t + n }; filled = 0 }
+      → b ≡ raise a
+      → p ≡ record { index = record { 0 = i }; root = record { 0 = a.reserved.0 + n }; filled = 0 }
       → card' ≡ laid n L (path n i) card
       → lent ≡ listed n i ranges
       → messages ≡ joined (map (given L) (plan_nodes n i)) ++ drop (length (joined (map (given L) (plan_nodes n i)))) buffer
-      → Told Whole k p card' lent messages
-  plan-whole k p card' lent messages e v q z f g m =
+      → Told Whole k b p card' lent messages
+  plan-whole k b p card' lent messages e v q y z f g m =
       rw (settles Whole e v) (record {
-        reports = record { gives = record { answered = refl; anchored = refl; left = f; filled = g }; counted = q };
+        reports = record { gives = record { answered = refl; anchored = y; left = f; filled = g }; counted = q };
         planned = z;
         gave = m;
       })
 
 -- The messages of a write
 
-module _ (n t i : ℕ) (card block : List ℕ) (d : IsCard n card) (inside : i < 2 ^ n) (long : length block ≡ 64) where
+module _ (n t r i : ℕ) (card block : List ℕ) (d : IsCard n card) (inside : i < 2 ^ n) (long : length block ≡ 64) where
   abbrev L : Labels
-  L = written_labels n t t card i block
+  L = written_labels n t r card i block
 
   -- how many bytes they have
   pub messages-bytes : length (joined (map (given L) (plan_nodes n i))) ≡ 34 * n + 112
   messages-bytes =
       messages-length n i inside d.deep L
-      (new-sized n t i block inside (labels n t card) long (labels-sized n t card d.full))
-      (ap length (new-root n t i block inside (labels n t card) d.deep) ∙ length-be 8 (t + n))
+      (new-sized n r i block inside (labels n t card) long (labels-sized n t card d.full))
+      (ap length (new-root n r i block inside (labels n t card) d.deep) ∙ length-be 8 (r + n))
 
   -- they are those of the card that the plan leaves, under its root nonce
-  pub messages-read : map (given (labels n (t + n) (laid n L (path n i) card))) (plan_nodes n i) ≡ map (given L) (plan_nodes n i)
+  pub messages-read : map (given (labels n (r + n) (laid n L (path n i) card))) (plan_nodes n i) ≡ map (given L) (plan_nodes n i)
   messages-read =
       map_same (plan_nodes n i)
       (λ u m.
       ap (λ (x : List ℕ). let g : Given = record { node = u; message = x } in g)
-      (plan-message n t t i card block d.deep d.full inside long u (plan-node n i inside u m)))
+      (plan-message n t r i card block d.deep d.full inside long u (plan-node n i inside u m)))
     where
-      map_same : (us : List ℕ) → ((u : ℕ) → Memᴰ u us → given (labels n (t + n) (laid n L (path n i) card)) u ≡ given L u)
-          → map (given (labels n (t + n) (laid n L (path n i) card))) us ≡ map (given L) us
+      map_same : (us : List ℕ) → ((u : ℕ) → Memᴰ u us → given (labels n (r + n) (laid n L (path n i) card)) u ≡ given L u)
+          → map (given (labels n (r + n) (laid n L (path n i) card))) us ≡ map (given L) us
       map_same [] f = refl
       map_same (u ∷ us) f =
           ap₂ (λ (g : Given) (gs : List Given). g ∷ gs) (f u (Memᴰ.head refl)) (map_same us (λ w m. f w (Memᴰ.tail m)))

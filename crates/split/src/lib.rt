@@ -17,15 +17,15 @@ use cmac::counted::Counted;
 use plan::{MESSAGE_BYTES, Plan};
 use tree::{Anchor, BlockIndex, Error, Node, Refusal, limits};
 
-// What an accepted put gives back.
+// What an accepted plan or put gives back: the anchor and the plan as they are then.
 #[derive(Clone, Copy)]
-pub struct Placed {
+pub struct Progress {
     pub anchor: Anchor,
     pub plan: Plan,
 }
 
-// Plans a write: its limits and checks, then its labels on the card, its ranges, and the messages at the front of the buffer. The anchor is
-// as it was. The count is of the checks; the engines make the rest.
+// Plans a write: its limits and checks, then its labels on the card, its ranges, and the messages at the front of the buffer. The anchor has
+// the write's nonces reserved, and its old root nonce. The count is of the checks; the engines make the rest.
 pub fn plan(
     anchor: Anchor,
     card: &mut [u8],
@@ -33,10 +33,12 @@ pub fn plan(
     block: &[u8],
     ranges: &mut [u8],
     messages: &mut [u8; MESSAGE_BYTES],
-) -> Counted<Result<Plan, Error>>
+) -> Counted<Result<Progress, Error>>
     ensures { Plans (subkeys_count anchor.key) (cmac_count anchor.key)
         (planned (cmac_of anchor.key) anchor card.old index.0 block.now ranges.old)
-        messages.old (answer_in result.value) result.count anchor (result_unwrap_or result.value no_plan) card.new ranges.new messages.new }
+        messages.old (answer_in result.value) result.count
+        (result_unwrap_or result.value (record { anchor = anchor; plan = no_plan })).anchor
+        (result_unwrap_or result.value (record { anchor = anchor; plan = no_plan })).plan card.new ranges.new messages.new }
 {
     match limits::write(anchor, card.len(), index, block.len(), ranges.len()) {
         Ok(()) => within::plan(anchor, card, index, block, ranges, messages),
@@ -51,7 +53,7 @@ pub fn put_tag(
     card: &mut [u8],
     node: Node,
     tag: [u8; 16],
-) -> Result<Placed, Refusal>
+) -> Result<Progress, Refusal>
     ensures { Puts (put anchor plan card.old node.0 tag) (limited_in result)
         (result_unwrap_or result (record { anchor = anchor; plan = plan })).anchor
         (result_unwrap_or result (record { anchor = anchor; plan = plan })).plan card.new }

@@ -1,5 +1,5 @@
 // What a plan and a put do within their limits, which are asked as in `work`.
-ghost use Rattle.std.specs.Prelude.{◌≡◌, ◌++◌, map, ◌+◌, ◌*◌, ◌^◌, ◌≤◌, ◌<◌, length, drop};
+ghost use Rattle.std.specs.Prelude.{◌≡◌, ◌++◌, map, ℕ, ◌+◌, ◌*◌, ◌^◌, ◌≤◌, ◌<◌, length, drop};
 ghost use Rattle.std.specs.Result.{result_unwrap_or};
 ghost use Rattle.std.proofs.Math.Option.{none};
 ghost use Rattle.cmac.specs.Cmac.{cmac_of};
@@ -15,7 +15,7 @@ ghost use Rattle.tree.specs.Calls.{write, limits};
 ghost use Rattle.plan.specs.Places.{plan_nodes};
 ghost use Rattle.plan.specs.Split.{given, planned, no_plan, joined, Plans, put_limits, put, Puts};
 
-use crate::Placed;
+use crate::Progress;
 use card::{BlockView, CardView, walk};
 use cmac::Context;
 use cmac::counted::Counted;
@@ -31,11 +31,13 @@ pub(crate) fn plan(
     block: &[u8],
     ranges: &mut [u8],
     messages: &mut [u8; MESSAGE_BYTES],
-) -> Counted<Result<Plan, Error>>
+) -> Counted<Result<Progress, Error>>
     requires { first_failing (limits anchor card.old (write index.0 block.now ranges.old)) ≡ none }
     ensures { Plans (subkeys_count anchor.key) (cmac_count anchor.key)
         (planned (cmac_of anchor.key) anchor card.old index.0 block.now ranges.old)
-        messages.old (answer_in result.value) result.count anchor (result_unwrap_or result.value no_plan) card.new ranges.new messages.new }
+        messages.old (answer_in result.value) result.count
+        (result_unwrap_or result.value (record { anchor = anchor; plan = no_plan })).anchor
+        (result_unwrap_or result.value (record { anchor = anchor; plan = no_plan })).plan card.new ranges.new messages.new }
 {
     let seen = BlockView::of(anchor, card, index);
     let path = seen.path();
@@ -45,10 +47,13 @@ pub(crate) fn plan(
         Ok(()) => {
             let new = NewBlock {
                 path,
-                last: anchor.root,
+                last: anchor.reserved,
                 bytes: block,
             };
-            Ok(lay(&new, card, ranges, messages))
+            Ok(Progress {
+                anchor: anchor.raise(),
+                plan: lay(&new, card, ranges, messages),
+            })
         }
         Err(error) => Err(error),
     };
@@ -73,13 +78,13 @@ fn lay(
       root = record { 0 = new.now.last.0 + new.now.path.depth.levels };
       filled = 0;
     } }
-    ensures card_after { card.new ≡ laid new.now.path.depth.levels
-        (written_labels new.now.path.depth.levels new.now.last.0 new.now.last.0 card.old new.now.path.index.0 new.now.bytes.now)
+    ensures card_after { (t : ℕ) → card.new ≡ laid new.now.path.depth.levels
+        (written_labels new.now.path.depth.levels t new.now.last.0 card.old new.now.path.index.0 new.now.bytes.now)
         (path_nodes new.now.path.depth.levels new.now.path.index.0) card.old }
     ensures ranges_after { ranges.new ≡ listed new.now.path.depth.levels new.now.path.index.0 ranges.old }
-    ensures messages_after { messages.new
+    ensures messages_after { (t : ℕ) → messages.new
         ≡ joined (map
-        (given (written_labels new.now.path.depth.levels new.now.last.0 new.now.last.0 card.old new.now.path.index.0 new.now.bytes.now))
+        (given (written_labels new.now.path.depth.levels t new.now.last.0 card.old new.now.path.index.0 new.now.bytes.now))
         (plan_nodes new.now.path.depth.levels new.now.path.index.0))
         ++ drop (34 * new.now.path.depth.levels + 112) messages.old }
 {
@@ -109,7 +114,7 @@ pub(crate) fn put_tag(
     card: &mut [u8],
     node: Node,
     tag: [u8; 16],
-) -> Placed
+) -> Progress
     requires { first_failing (put_limits anchor plan card.old node.0) ≡ none }
     ensures { Puts (put anchor plan card.old node.0 tag) Whole result.anchor result.plan card.new }
 {
@@ -125,7 +130,7 @@ pub(crate) fn put_tag(
     } else {
         anchor
     };
-    Placed {
+    Progress {
         anchor,
         plan: filled,
     }

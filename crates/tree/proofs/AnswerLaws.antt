@@ -12,15 +12,15 @@ use Rattle.tree.specs.Calls.{Call, limits, checks, verdict, answer_of, outcome, 
 use Rattle.tree.specs.declared.Anchor.{Anchor}
 use Rattle.tree.specs.declared.Refusal.{Refusal}
 use Rattle.tree.specs.declared.Refusal.TheVariants.{Depth, RootNonce, CardLength, BlockNumber, BlockLength, RangeLength, NoncesSpent}
-use Rattle.tree.specs.declared.Refusal.TheVariants.{NotAwaited}
+use Rattle.tree.specs.declared.Refusal.TheVariants.{NotAwaited, Journal}
 use Rattle.tree.specs.Answer.{Answer}
 use Rattle.tree.specs.Answer.{Whole, Wrong, Refused}
 use Rattle.tree.proofs.LayoutLaws.{few-leaves}
 use Rattle.tree.proofs.LimitLaws.{passed, passes-sound}
 use Rattle.tree.proofs.CallLaws.{wrong-among, checks-nodes, outcome-answer}
 
--- a number has one digit, and a node at most 17 bits
-pub number_small : (x : Answer) → number_of x ≤ 9
+-- a number is at most 10, and a node has at most 17 bits
+pub number_small : (x : Answer) → number_of x ≤ 10
 number_small Whole = omega arith
 number_small (Wrong u) = omega arith
 number_small (Refused Depth) = omega arith
@@ -31,6 +31,7 @@ number_small (Refused BlockLength) = omega arith
 number_small (Refused RangeLength) = omega arith
 number_small (Refused NoncesSpent) = omega arith
 number_small (Refused NotAwaited) = omega arith
+number_small (Refused Journal) = omega arith
 
 verdict-node : (r : Option Refusal) (w : Option ℕ) → ((u : ℕ) → r ≡ none → w ≡ some u → u < 131072) → node_of (verdict r w) < 131072
 verdict-node (some r) w f = omega arith

@@ -15,7 +15,7 @@ use Rattle.tree.specs.Nodes.{up_to, all_nodes}
 use Rattle.tree.specs.Labels.{Labels, message, blank_labels}
 use Rattle.tree.specs.Card.{put_each, stamped, blanked, first_wrong, checked}
 use Rattle.tree.specs.Limits.{depth_limit, card_limit, first_failing}
-use Rattle.tree.specs.Calls.{wipe, first_limits, own_limits, limits, checks, tagged, verdict, rooted, answer_of, outcome}
+use Rattle.tree.specs.Calls.{wipe, first_limits, own_limits, limits, checks, tagged, verdict, renew, formatted, answer_of, outcome}
 use Rattle.tree.specs.Calls.{format_answer, format_card, format}
 use Rattle.tree.specs.Blind.{Blind, BlindFormat}
 use Rattle.tree.specs.declared.Anchor.{Anchor}
@@ -114,12 +114,12 @@ module _ (F : List ℕ → List ℕ) (F16 : (m : List ℕ) → length (F m) ≡ 
   unfolding checks checked
   made c d e w =
       let n = a.depth in
-      let t = a.root.0 + a.depth in
+      let t = a.reserved.0 + a.depth in
       let p = sym (outcome-answer F a c wipe) ∙ w in
       let q = sym (outcome-answer F a d wipe) ∙ sym (answered c d e) ∙ w in
       let ok = (accepted F a c wipe p).limits-passed.sound in
       outcome-done F a c wipe p
-      ∙ ap (λ (card : List ℕ). record { answer = Whole; anchor = rooted a t; card = card; lent = []; counted = tagged a card wipe })
+      ∙ ap (λ (card : List ℕ). record { answer = Whole; anchor = renew a; card = card; lent = []; counted = tagged a card wipe })
       (blanked-same F F16 n ok.deep t c d ok.full (sym e ∙ ok.full))
       ∙ sym (outcome-done F a d wipe q)
 
@@ -138,7 +138,7 @@ module _ (F : List ℕ → List ℕ) (F16 : (m : List ℕ) → length (F m) ≡ 
   format-made c d e w =
       let ok = format-in n c w in
       let v : format_answer n d ≡ Whole = sym (format-answered c d e) ∙ w in
-      let a : Anchor = record { key = key; depth = n; root = record { 0 = 0 } } in
+      let a = formatted key n in
       ap₂ (λ (x : Answer) (card : List ℕ). record { answer = x; anchor = a; card = card; lent = []; counted = [] })
       (format-answered c d e)
       (ap (λ (x : Answer). format_card F x n c) w ∙ blanked-same F F16 n ok.deep 0 c d ok.full (sym e ∙ ok.full)

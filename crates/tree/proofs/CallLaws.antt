@@ -147,14 +147,14 @@ module _ (F : List ℕ → List ℕ) (F16 : (m : List ℕ) → length (F m) ≡ 
   pub clean-wiped : Passes a card wipe →
       let o = done F a card wipe in
       Clean F o.anchor.depth o.anchor.root.0 o.card
-  clean-wiped p = clean-blanked F F16 a.depth p.sound.deep (a.root.0 + a.depth) card p.sound.full
+  clean-wiped p = clean-blanked F F16 a.depth p.sound.deep (a.reserved.0 + a.depth) card p.sound.full
 
   pub clean-done : (c : Call) → Passes a card c → Clean F a.depth a.root.0 card →
       let o = done F a card c in
       Clean F o.anchor.depth o.anchor.root.0 o.card
   clean-done (read i buffer) p clean = clean
   clean-done (write i block ranges) p clean =
-      clean-written F F16 a.depth p.sound.deep a.root.0 a.root.0 card i block p.inside p.long clean
+      clean-written F F16 a.depth p.sound.deep a.root.0 a.reserved.0 card i block p.inside p.long clean
   clean-done check p clean = clean
   clean-done wipe p clean = clean-wiped p
 

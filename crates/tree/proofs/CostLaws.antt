@@ -204,12 +204,12 @@ module _ (each : List ℕ → ℕ) (a b : ℕ) (short : (m : List ℕ) → lengt
     tags-cost (read i buffer) p = refl
     tags-cost (write i block ranges) p =
         let n = x.depth in
-        let t = x.root.0 in
-        let L = labels n t card in
-        total-cost each a b short long n (new_labels n t i block L)
-        (new-sized n t i block p.inside L p.long (labels-sized n t card p.sound.full))
-        (ap length (new-root n t i block p.inside L p.sound.deep) ∙ length-be 8 (t + n))
+        let r = x.reserved.0 in
+        let L = labels n x.root.0 card in
+        total-cost each a b short long n (new_labels n r i block L)
+        (new-sized n r i block p.inside L p.long (labels-sized n x.root.0 card p.sound.full))
+        (ap length (new-root n r i block p.inside L p.sound.deep) ∙ length-be 8 (r + n))
         (pairs n i) (λ w m. pair-node n i p.inside w m)
         ∙ pairs-cost a b n i p.inside p.sound.deep
     tags-cost check p = refl
-    tags-cost wipe p = blank-cost x.depth (x.root.0 + x.depth) p.sound.deep
+    tags-cost wipe p = blank-cost x.depth (x.reserved.0 + x.depth) p.sound.deep

@@ -9,11 +9,11 @@ use lib.Seq.{sets}
 use Rattle.words.specs.Bytes.{same}
 use Rattle.tree.specs.Layout.{offset, label, tag}
 use Rattle.tree.specs.Nodes.{pairs, all_nodes}
-use Rattle.tree.specs.Labels.{Labels, message, labels, blank_labels, new_labels}
+use Rattle.tree.specs.Labels.{Labels, message, labels, blank_labels, written_labels}
 use Rattle.tree.specs.Card.{put_each, right, first_wrong, checked, stamp, stamped, blanked, written}
 use Rattle.tree.specs.Ranges.{listed}
 use Rattle.tree.specs.Limits.{first_failing}
-use Rattle.tree.specs.Calls.{Call, read, write, check, wipe, lent_to, limits, checks, tagged, verdict, rooted, answer_of, checked_by}
+use Rattle.tree.specs.Calls.{Call, read, write, check, wipe, lent_to, limits, checks, tagged, verdict, renew, answer_of, checked_by}
 use Rattle.tree.specs.Calls.{made_by, done, settled, outcome}
 use Rattle.tree.specs.Enough.{Enough}
 use Rattle.tree.specs.declared.Anchor.{Anchor}
@@ -75,29 +75,29 @@ module _ (F G : List ℕ → List ℕ) where
         (checked-same (read i buffer) (λ m k. h m (Memᴰ.append_left [] k)))
     done-same (write i block ranges) h =
         let n = a.depth in
-        let t = a.root.0 in
+        let L = written_labels n a.root.0 a.reserved.0 card i block in
         let c = write i block ranges in
         ap₂
         (λ (d : List ℕ) (l : List (List ℕ)).
         record {
           answer = Whole;
-          anchor = rooted a (t + n);
+          anchor = renew a;
           card = d;
           lent = listed n i ranges;
           counted = l ++ tagged a card c;
         })
-        (stamped-same n (new_labels n t i block (labels n t card)) (pairs n i) card
-        (λ u k. h _ (Memᴰ.append_right (checked_by F a card c) (Memᴰ.map (message (new_labels n t i block (labels n t card))) k))))
+        (stamped-same n L (pairs n i) card
+        (λ u k. h _ (Memᴰ.append_right (checked_by F a card c) (Memᴰ.map (message L) k))))
         (checked-same c (λ m k. h m (Memᴰ.append_left (tagged a card c) k)))
     done-same check h =
         ap (λ (l : List (List ℕ)). record { answer = Whole; anchor = a; card = card; lent = []; counted = l ++ [] })
         (checked-same check (λ m k. h m (Memᴰ.append_left [] k)))
     done-same wipe h =
         let n = a.depth in
-        let t = a.root.0 + n in
+        let t = a.reserved.0 + n in
         ap₂
         (λ (d : List ℕ) (l : List (List ℕ)).
-        record { answer = Whole; anchor = rooted a t; card = d; lent = []; counted = l ++ tagged a card wipe })
+        record { answer = Whole; anchor = renew a; card = d; lent = []; counted = l ++ tagged a card wipe })
         (stamped-same n (blank_labels n t) (all_nodes n) card
         (λ u k. h _ (Memᴰ.append_right (checked_by F a card wipe) (Memᴰ.map (message (blank_labels n t)) k))))
         (checked-same wipe (λ m k. h m (Memᴰ.append_left (tagged a card wipe) k)))

@@ -9,13 +9,14 @@ use native.Mathlib.Omega.{arith}
 use borrow.Author.Tests.{ltb-false, leb-false, eqb-true, eqb-false, not-false, eq-eqb, ne_eqb, le-ltb, lt-leb}
 use lib.Dec.{eqb, ltb}
 use lib.ListN.{length}
+use Rattle.std.proofs.Math.Nat.{add-mod_right}
 use Rattle.words.proofs.Cases.{below_or_not}
 use Rattle.tree.specs.Layout.{IsCard, card_length}
-use Rattle.tree.specs.Limits.{Limit, depth_limit, first_failing}
+use Rattle.tree.specs.Limits.{Limit, depth_limit, nonce_limit, first_failing}
 use Rattle.tree.specs.Tests.{test_result, tested}
 use Rattle.tree.specs.Answer.{limited_in}
 use Rattle.std.specs.Prelude.{Result, Ok, Err}
-use Rattle.tree.specs.Calls.{verdict, Call, read, write, check, wipe, first_limits, own_limits, limits}
+use Rattle.tree.specs.Calls.{verdict, Call, read, write, check, wipe, first_limits, own_limits, limits, raise}
 use Rattle.tree.specs.declared.Anchor.{Anchor}
 use Rattle.tree.specs.declared.Refusal.{Refusal}
 
@@ -142,65 +143,90 @@ limited-tested ls = go (first_failing ls)
 -- What holds where a call's limits are all passed
 
 -- 1, 2 and 3
-pub record Sound (n t : ℕ) (card : List ℕ) : Type 0 where
-  pub deep : 1 ≤ n
-  pub shallow : n ≤ 16
-  pub multiple : t % n ≡ 0
-  pub full : length card ≡ card_length n
+pub record Sound (a : Anchor) (card : List ℕ) : Type 0 where
+  pub deep : 1 ≤ a.depth
+  pub shallow : a.depth ≤ 16
+  pub multiple : a.root.0 % a.depth ≡ 0
+  pub reserved_multiple : a.reserved.0 % a.depth ≡ 0
+  pub within : a.root.0 ≤ a.reserved.0
+  pub full : length card ≡ card_length a.depth
 
-pub sound-card : {n t : ℕ} {card : List ℕ} → Sound n t card → IsCard n card
+pub sound-card : {a : Anchor} {card : List ℕ} → Sound a card → IsCard a.depth card
 sound-card s = record { deep = s.deep; shallow = s.shallow; full = s.full }
 
+-- and they are passed where more nonces are reserved
+pub raised-sound : {a : Anchor} {card : List ℕ} → Sound a card → Sound (raise a) card
+raised-sound {a = a} s =
+    record {
+      deep = s.deep;
+      shallow = s.shallow;
+      multiple = s.multiple;
+      reserved_multiple = add-mod_right a.reserved.0 a.depth ∙ s.reserved_multiple;
+      within = omega (arith, s.within);
+      full = s.full;
+    }
+
 module _ (a : Anchor) (card : List ℕ) where
-  pub first-passed : first_failing (first_limits a (length card)) ≡ none → Sound a.depth a.root.0 card
+  pub first-passed : first_failing (first_limits a (length card)) ≡ none → Sound a card
   first-passed e =
       let p = passes _ _ e in
       let q = passes _ _ p.1 in
       let r = passes _ _ q.1 in
       let d = depth-in a.depth p.0 in
+      let t = not-or (not (eqb (a.root.0 % a.depth) 0)) (not (eqb (a.reserved.0 % a.depth) 0) || ltb a.reserved.0 a.root.0) q.0 in
+      let h = not-or (not (eqb (a.reserved.0 % a.depth) 0)) (ltb a.reserved.0 a.root.0) t.1 in
       record {
         deep = d.0;
         shallow = d.1;
-        multiple = is-equal (a.root.0 % a.depth) 0 q.0;
+        multiple = is-equal (a.root.0 % a.depth) 0 t.0;
+        reserved_multiple = is-equal (a.reserved.0 % a.depth) 0 h.0;
+        within = ltb-false a.reserved.0 a.root.0 h.1;
         full = is-equal (length card) (card_length a.depth) r.0;
       }
 
-  pass-first : Sound a.depth a.root.0 card → first_failing (first_limits a (length card)) ≡ none
+  nonces-pass : Sound a card → (nonce_limit a.depth a.root.0 a.reserved.0).fails ≡ false
+  nonces-pass s =
+      or-not (not (eqb (a.root.0 % a.depth) 0)) (not (eqb (a.reserved.0 % a.depth) 0) || ltb a.reserved.0 a.root.0)
+      (equal_is (a.root.0 % a.depth) 0 s.multiple)
+      (or-not (not (eqb (a.reserved.0 % a.depth) 0)) (ltb a.reserved.0 a.root.0) (equal_is (a.reserved.0 % a.depth) 0 s.reserved_multiple)
+      (le-ltb a.reserved.0 a.root.0 s.within))
+
+  pass-first : Sound a card → first_failing (first_limits a (length card)) ≡ none
   pass-first s =
       pass _ _ (depth-passes a.depth s.deep s.shallow)
-      (pass _ _ (equal_is (a.root.0 % a.depth) 0 s.multiple)
+      (pass _ _ (nonces-pass s)
       (pass _ _ (equal_is (length card) (card_length a.depth) s.full) no-limits))
 
 -- and the call's own
-pub record Reads (n t : ℕ) (card : List ℕ) (i : ℕ) (buffer : List ℕ) : Type 0 where
-  pub sound : Sound n t card
-  pub inside : i < 2 ^ n
+pub record Reads (a : Anchor) (card : List ℕ) (i : ℕ) (buffer : List ℕ) : Type 0 where
+  pub sound : Sound a card
+  pub inside : i < 2 ^ a.depth
   pub long : length buffer ≡ 64
 
-pub record Writes (n t : ℕ) (card : List ℕ) (i : ℕ) (block ranges : List ℕ) : Type 0 where
-  pub sound : Sound n t card
-  pub inside : i < 2 ^ n
+pub record Writes (a : Anchor) (card : List ℕ) (i : ℕ) (block ranges : List ℕ) : Type 0 where
+  pub sound : Sound a card
+  pub inside : i < 2 ^ a.depth
   pub long : length block ≡ 64
-  pub room : 16 * n ≤ length ranges
-  pub unspent : t + n < 2 ^ 64
+  pub room : 16 * a.depth ≤ length ranges
+  pub unspent : a.reserved.0 + a.depth < 2 ^ 64
 
-pub record Wipes (n t : ℕ) (card : List ℕ) : Type 0 where
-  pub sound : Sound n t card
-  pub unspent : t + n < 2 ^ 64
+pub record Wipes (a : Anchor) (card : List ℕ) : Type 0 where
+  pub sound : Sound a card
+  pub unspent : a.reserved.0 + a.depth < 2 ^ 64
 
 abbrev pub Passes : Anchor → List ℕ → Call → Type 0
-Passes a card (read i buffer) = Reads a.depth a.root.0 card i buffer
-Passes a card (write i block ranges) = Writes a.depth a.root.0 card i block ranges
-Passes a card check = Sound a.depth a.root.0 card
-Passes a card wipe = Wipes a.depth a.root.0 card
+Passes a card (read i buffer) = Reads a card i buffer
+Passes a card (write i block ranges) = Writes a card i block ranges
+Passes a card check = Sound a card
+Passes a card wipe = Wipes a card
 
-pub passes-sound : (a : Anchor) (card : List ℕ) (c : Call) → Passes a card c → Sound a.depth a.root.0 card
+pub passes-sound : (a : Anchor) (card : List ℕ) (c : Call) → Passes a card c → Sound a card
 passes-sound a card (read i buffer) p = p.sound
 passes-sound a card (write i block ranges) p = p.sound
 passes-sound a card check p = p
 passes-sound a card wipe p = p.sound
 
-own-passed : (a : Anchor) (card : List ℕ) (c : Call) → Sound a.depth a.root.0 card → first_failing (own_limits a c) ≡ none
+own-passed : (a : Anchor) (card : List ℕ) (c : Call) → Sound a card → first_failing (own_limits a c) ≡ none
     → Passes a card c
 own-passed a card (read i buffer) s e =
     let q = passes _ _ e in
@@ -216,10 +242,10 @@ own-passed a card (write i block ranges) s e =
       inside = leb-false (2 ^ a.depth) i q.0;
       long = is-equal (length block) 64 r.0;
       room = ltb-false (length ranges) (16 * a.depth) t.0;
-      unspent = leb-false (2 ^ 64) (a.root.0 + a.depth) u.0;
+      unspent = leb-false (2 ^ 64) (a.reserved.0 + a.depth) u.0;
     }
 own-passed a card check s e = s
-own-passed a card wipe s e = record { sound = s; unspent = leb-false (2 ^ 64) (a.root.0 + a.depth) (passes _ _ e).0 }
+own-passed a card wipe s e = record { sound = s; unspent = leb-false (2 ^ 64) (a.reserved.0 + a.depth) (passes _ _ e).0 }
 
 pass-own : (a : Anchor) (card : List ℕ) (c : Call) → Passes a card c → first_failing (own_limits a c) ≡ none
 pass-own a card (read i buffer) p =
@@ -228,9 +254,9 @@ pass-own a card (write i block ranges) p =
     pass _ _ (lt-leb (2 ^ a.depth) i p.inside)
     (pass _ _ (equal_is (length block) 64 p.long)
     (pass _ _ (le-ltb (length ranges) (16 * a.depth) p.room)
-    (pass _ _ (lt-leb (2 ^ 64) (a.root.0 + a.depth) p.unspent) no-limits)))
+    (pass _ _ (lt-leb (2 ^ 64) (a.reserved.0 + a.depth) p.unspent) no-limits)))
 pass-own a card check p = no-limits
-pass-own a card wipe p = pass _ _ (lt-leb (2 ^ 64) (a.root.0 + a.depth) p.unspent) no-limits
+pass-own a card wipe p = pass _ _ (lt-leb (2 ^ 64) (a.reserved.0 + a.depth) p.unspent) no-limits
 
 pub passed : (a : Anchor) (card : List ℕ) (c : Call) → first_failing (limits a card c) ≡ none → Passes a card c
 unfolding limits

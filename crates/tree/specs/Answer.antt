@@ -5,7 +5,7 @@ use Rattle.tree.specs.declared.Error.{Error}
 use Rattle.tree.specs.declared.Error.TheVariants.{WrongTag, Limit}
 use Rattle.tree.specs.declared.Refusal.{Refusal}
 use Rattle.tree.specs.declared.Refusal.TheVariants.{Depth, RootNonce, CardLength, BlockNumber, BlockLength, RangeLength, NoncesSpent}
-use Rattle.tree.specs.declared.Refusal.TheVariants.{NotAwaited}
+use Rattle.tree.specs.declared.Refusal.TheVariants.{NotAwaited, Journal}
 
 -- every tag that it checked is right, and it is accepted; or the first one that is wrong; or a refusal
 pub data Answer : Type 0 where
@@ -22,6 +22,7 @@ refusal_number BlockLength = 5
 refusal_number RangeLength = 6
 refusal_number NoncesSpent = 7
 refusal_number NotAwaited = 9
+refusal_number Journal = 10
 
 abbrev pub number_of : Answer → ℕ
 number_of Whole = 0

@@ -44,19 +44,19 @@ renews wipe = true
 
 -- 1, 2 and 3, with which every call after format begins; len is the card's length
 abbrev pub first_limits : Anchor → ℕ → List Limit
-first_limits a len = depth_limit a.depth ∷ nonce_limit a.depth a.root.0 ∷ card_limit a.depth len ∷ []
+first_limits a len = depth_limit a.depth ∷ nonce_limit a.depth a.root.0 a.reserved.0 ∷ card_limit a.depth len ∷ []
 
 -- 4 to 7, which a write tests behind them, by the lengths of the block and of the range buffer
 abbrev pub write_limits : Anchor → ℕ → ℕ → ℕ → List Limit
 write_limits a i block ranges =
-    block_limit a.depth i ∷ length_limit block ∷ range_limit a.depth ranges ∷ spent_limit a.depth a.root.0 ∷ []
+    block_limit a.depth i ∷ length_limit block ∷ range_limit a.depth ranges ∷ spent_limit a.depth a.reserved.0 ∷ []
 
 -- the limits that a call tests behind 1, 2 and 3, in this order
 abbrev pub own_limits : Anchor → Call → List Limit
 own_limits a (read i buffer) = block_limit a.depth i ∷ length_limit (length buffer) ∷ []
 own_limits a (write i block ranges) = write_limits a i (length block) (length ranges)
 own_limits a check = []
-own_limits a wipe = spent_limit a.depth a.root.0 ∷ []
+own_limits a wipe = spent_limit a.depth a.reserved.0 ∷ []
 
 unfoldable pub limits : Anchor → List ℕ → Call → List Limit
 limits a card c = first_limits a (length card) ++ own_limits a c
@@ -79,12 +79,11 @@ tags n wipe = all_nodes n
 abbrev pub tagged : Anchor → List ℕ → Call → List (List ℕ)
 tagged a card (read i buffer) = []
 tagged a card (write i block ranges) =
-    let t = a.root.0 in
-    map (message (written_labels a.depth t t card i block)) (tags a.depth (write i block ranges))
+    map (message (written_labels a.depth a.root.0 a.reserved.0 card i block)) (tags a.depth (write i block ranges))
 tagged a card check = []
 tagged a card wipe =
     let n = a.depth in
-    map (message (blank_labels n (a.root.0 + n))) (tags n wipe)
+    map (message (blank_labels n (a.reserved.0 + n))) (tags n wipe)
 
 -- the first limit that fails; else the first wrong node; else whole
 abbrev pub verdict : Option Refusal → Option ℕ → Answer
@@ -132,9 +131,21 @@ pub record Reports (subkeys : ℕ) (each : List ℕ → ℕ) (o : Outcome) (answ
   pub gives : Gives o answer anchor card lent
   pub counted : count ≡ count_of subkeys each o
 
+-- the anchor that a format makes
+abbrev pub formatted : List ℕ → ℕ → Anchor
+formatted key n = record { key = key; depth = n; root = record { 0 = 0 }; reserved = record { 0 = 0 } }
+
 -- the anchor with another root nonce
 abbrev pub rooted : Anchor → ℕ → Anchor
-rooted a t = record { key = a.key; depth = a.depth; root = record { 0 = t } }
+rooted a t = record { key = a.key; depth = a.depth; root = record { 0 = t }; reserved = a.reserved }
+
+-- with n nonces more reserved: every accepted write and wipe does that first, and so does a plan
+abbrev pub raise : Anchor → Anchor
+raise a = record { key = a.key; depth = a.depth; root = a.root; reserved = record { 0 = a.reserved.0 + a.depth } }
+
+-- the anchor behind a write or a wipe: T is what H was raised to
+abbrev pub renew : Anchor → Anchor
+renew a = rooted (raise a) (raise a).reserved.0
 
 module _ (F : List ℕ → List ℕ) where
   unfoldable pub answer_of : Anchor → List ℕ → Call → Answer
@@ -161,18 +172,18 @@ module _ (F : List ℕ → List ℕ) where
   done a card (write i block ranges) =
       record {
         answer = Whole;
-        anchor = rooted a (a.root.0 + a.depth);
-        card = written F a.depth a.root.0 a.root.0 card i block;
+        anchor = renew a;
+        card = written F a.depth a.root.0 a.reserved.0 card i block;
         lent = listed a.depth i ranges;
         counted = made_by a card (write i block ranges);
       }
   done a card check = record { answer = Whole; anchor = a; card = card; lent = []; counted = made_by a card check }
   done a card wipe =
-      let t = a.root.0 + a.depth in
+      let b = renew a in
       record {
         answer = Whole;
-        anchor = rooted a t;
-        card = blanked F a.depth t card;
+        anchor = b;
+        card = blanked F a.depth b.root.0 card;
         lent = [];
         counted = made_by a card wipe;
       }
@@ -196,7 +207,7 @@ module _ (F : List ℕ → List ℕ) where
   format key n card =
       record {
         answer = format_answer n card;
-        anchor = record { key = key; depth = n; root = record { 0 = 0 } };
+        anchor = formatted key n;
         card = format_card (format_answer n card) n card;
         lent = [];
         counted = [];

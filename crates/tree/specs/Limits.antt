@@ -13,9 +13,9 @@ pub record Limit : Type 0 where
 abbrev pub depth_limit : ℕ → Limit
 depth_limit n = record { fails = eqb n 0 || ltb 16 n; refusal = Depth }
 
--- 2: the root nonce is no multiple of the depth
-abbrev pub nonce_limit : ℕ → ℕ → Limit
-nonce_limit n t = record { fails = not (eqb (t % n) 0); refusal = RootNonce }
+-- 2: the root nonce t or the reserved one h is no multiple of the depth, or h is below t
+abbrev pub nonce_limit : ℕ → ℕ → ℕ → Limit
+nonce_limit n t h = record { fails = not (eqb (t % n) 0) || (not (eqb (h % n) 0) || ltb h t); refusal = RootNonce }
 
 -- 3: the card's length is not the formula's
 abbrev pub card_limit : ℕ → ℕ → Limit
@@ -33,7 +33,7 @@ length_limit len = record { fails = not (eqb len 64); refusal = BlockLength }
 abbrev pub range_limit : ℕ → ℕ → Limit
 range_limit n len = record { fails = ltb len (16 * n); refusal = RangeLength }
 
--- 7: the nonces are spent; r is the last one used
+-- 7: the nonces are spent; r is the last one reserved
 abbrev pub spent_limit : ℕ → ℕ → Limit
 spent_limit n r = record { fails = leb (2 ^ 64) (r + n); refusal = NoncesSpent }
 

@@ -8,8 +8,9 @@ pub mod numbers;
 pub mod path;
 pub mod ranges;
 
-ghost use Rattle.std.specs.Prelude.{◌≡◌, ◌≤◌};
+ghost use Rattle.std.specs.Prelude.{◌≡◌, ◌≤◌, ◌<◌, ◌+◌, ◌^◌};
 ghost use Rattle.tree.specs.Answer.{number_of, node_of, refused_as, answer_in};
+ghost use Rattle.tree.specs.Calls.{raise, renew};
 ghost use Rattle.tree.specs.declared.Error.TheVariants.{Limit};
 
 pub use layout::{Depth, Entry};
@@ -28,13 +29,15 @@ pub struct BlockIndex(pub u64);
 #[derive(Clone, Copy, PartialEq, Eq)]
 pub struct Nonce(pub u64);
 
-// The chip's record, which is trusted.
+// The chip's record, which is trusted. The root nonce (document 01: root serial, T) is that of the card; nonces up to the reserved one
+// (document 02: reserved serial, H) may have been used, by a write that was lost too.
 #[repr(C)]
 #[derive(Clone, Copy)]
 pub struct Anchor {
     pub key: [u8; 16],
     pub depth: u64,
     pub root: Nonce,
+    pub reserved: Nonce,
 }
 
 impl Anchor {
@@ -45,9 +48,32 @@ impl Anchor {
     {
         Depth { levels: self.depth }
     }
+
+    // With the nonces of one write or wipe more reserved, of which enough are left.
+    pub fn raise(self) -> Anchor
+        requires { self.reserved.0 + self.depth < 2 ^ 64 }
+        ensures { result ≡ raise self }
+    {
+        Anchor {
+            reserved: Nonce(self.reserved.0 + self.depth),
+            ..self
+        }
+    }
+
+    // Behind that write or wipe: the root nonce is the last one reserved.
+    pub fn renew(self) -> Anchor
+        requires { self.reserved.0 + self.depth < 2 ^ 64 }
+        ensures { result ≡ renew self }
+    {
+        let raised = self.raise();
+        Anchor {
+            root: raised.reserved,
+            ..raised
+        }
+    }
 }
 
-// Why a call is refused, but for a wrong tag, in the order of the papers' numbers: 1 to 7, and 9.
+// Why a call is refused, but for a wrong tag, in the order of the papers' numbers: 1 to 7, 9 and 10.
 #[derive(Clone, Copy, PartialEq, Eq)]
 pub enum Refusal {
     Depth = 1,
@@ -58,6 +84,7 @@ pub enum Refusal {
     RangeLength = 6,
     NoncesSpent = 7,
     NotAwaited = 9,
+    Journal = 10,
 }
 
 // Why a call is not accepted: the first node whose tag is wrong, or a limit.

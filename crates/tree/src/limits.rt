@@ -22,12 +22,15 @@ pub fn depth(depth: u64) -> Result<(), Refusal>
     unless(depth == 0 || 16 < depth, Refusal::Depth)
 }
 
-// 2: the root nonce is a multiple of the depth.
-pub fn root_nonce(depth: u64, root: Nonce) -> Result<(), Refusal>
+// 2: the root nonce and the reserved one are multiples of the depth, and the reserved one is not below.
+pub fn root_nonce(depth: u64, root: Nonce, reserved: Nonce) -> Result<(), Refusal>
     requires { 1 ≤ depth }
-    ensures { result ≡ tested (nonce_limit depth root.0 ∷ []) }
+    ensures { result ≡ tested (nonce_limit depth root.0 reserved.0 ∷ []) }
 {
-    unless(root.0 % depth != 0, Refusal::RootNonce)
+    unless(
+        root.0 % depth != 0 || reserved.0 % depth != 0 || reserved.0 < root.0,
+        Refusal::RootNonce,
+    )
 }
 
 // 3: the card has its length.
@@ -42,7 +45,7 @@ pub fn first(anchor: Anchor, len: usize) -> Result<(), Refusal>
     ensures { result ≡ tested (first_limits anchor len) }
 {
     depth(anchor.depth)?;
-    root_nonce(anchor.depth, anchor.root)?;
+    root_nonce(anchor.depth, anchor.root, anchor.reserved)?;
     card_length(anchor.card_depth(), len)
 }
 
@@ -67,7 +70,7 @@ pub fn range_length(depth: Depth, len: usize) -> Result<(), Refusal>
     unless((len as u64) < 16 * depth.levels, Refusal::RangeLength)
 }
 
-// 7: the nonces after the last one used suffice for one more write or wipe.
+// 7: the nonces after the last one reserved suffice for one more write or wipe.
 pub fn nonces_spent(depth: u64, last: Nonce) -> Result<(), Refusal>
     ensures { result ≡ tested (spent_limit depth last.0 ∷ []) }
 {
@@ -90,5 +93,5 @@ pub fn write(
     block_number(depth, index)?;
     block_length(block)?;
     range_length(depth, ranges)?;
-    nonces_spent(anchor.depth, anchor.root)
+    nonces_spent(anchor.depth, anchor.reserved)
 }

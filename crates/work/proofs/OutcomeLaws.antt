@@ -20,7 +20,7 @@ use Rattle.tree.specs.Labels.{message, blank_labels}
 use Rattle.tree.specs.Card.{blanked, written, first_wrong, checked}
 use Rattle.tree.specs.Ranges.{listed}
 use Rattle.tree.specs.Limits.{first_failing}
-use Rattle.tree.specs.Calls.{Call, read, write, check, wipe, lent_to, limits, checks, tagged, verdict, total, Reports, rooted, answer_of}
+use Rattle.tree.specs.Calls.{Call, read, write, check, wipe, lent_to, limits, checks, tagged, verdict, total, Reports, renew, answer_of}
 use Rattle.tree.specs.Calls.{checked_by, settled, outcome}
 use Rattle.tree.specs.declared.Anchor.{Anchor}
 use Rattle.tree.specs.declared.Refusal.{Refusal}
@@ -135,8 +135,8 @@ module _ (a : Anchor) (card : List ℕ) where
       first_failing (limits a card c) ≡ none
       → Whole ≡ verdict none (first_wrong F a.depth a.root.0 card (checks a.depth c))
       → k ≡ once + total each (checked_by F a card c) + total each (tagged a card c)
-      → b ≡ rooted a (a.root.0 + a.depth)
-      → card' ≡ written F a.depth a.root.0 a.root.0 card i block
+      → b ≡ renew a
+      → card' ≡ written F a.depth a.root.0 a.reserved.0 card i block
       → lent ≡ listed a.depth i ranges
       → Told c Whole k b card' lent
   reports-write i block ranges k b card' lent e v q h f g =
@@ -150,8 +150,8 @@ module _ (a : Anchor) (card : List ℕ) where
 
   -- a wipe within its limits is whole, and gives the card and the anchor
   pub reports-wipe : (k : ℕ) (b : Anchor) (card' : List ℕ) → first_failing (limits a card wipe) ≡ none
-      → k ≡ once + total each (tagged a card wipe) → b ≡ rooted a (a.root.0 + a.depth)
-      → card' ≡ blanked F a.depth (a.root.0 + a.depth) card → Told wipe Whole k b card' []
+      → k ≡ once + total each (tagged a card wipe) → b ≡ renew a
+      → card' ≡ blanked F a.depth (a.reserved.0 + a.depth) card → Told wipe Whole k b card' []
   unfolding checks first_wrong checked
   reports-wipe k b card' e q h f =
       rw (settles wipe Whole e refl) (record { gives = record { answered = refl; anchored = h; left = f; filled = refl }; counted = q })

@@ -3,10 +3,11 @@
 // hold for one call, and be made in one place and opened in one.
 #![tactic(auto)]
 
-ghost use Rattle.std.specs.Prelude.{◌≡◌, [], map, ◌+◌, ◌^◌, ◌<◌};
+ghost use Rattle.std.specs.Prelude.{◌≡◌, [], map, ◌+◌};
 ghost use Rattle.std.specs.Result.{result_unwrap_or};
 ghost use Rattle.std.proofs.Math.Option.{none};
 ghost use Rattle.cmac.specs.Cmac.{cmac_of};
+ghost use Rattle.cmac.specs.Context.{ContextOf};
 ghost use Rattle.cmac.specs.Traced.{subkeys_count, cmac_count};
 ghost use Rattle.tree.specs.Layout.{IsCard};
 ghost use Rattle.tree.specs.Nodes.{all_nodes};
@@ -14,13 +15,13 @@ ghost use Rattle.tree.specs.Labels.{message, blank_labels};
 ghost use Rattle.tree.specs.Card.{blanked};
 ghost use Rattle.tree.specs.Limits.{first_failing};
 ghost use Rattle.tree.specs.Answer.{Whole, answer_in};
-ghost use Rattle.tree.specs.Calls.{Reports, read, write, check, wipe, limits, total, rooted, outcome};
+ghost use Rattle.tree.specs.Calls.{Reports, read, write, check, wipe, limits, total, outcome};
 
 use card::{BlockView, CardView, walk};
 use cmac::Context;
 use cmac::counted::Counted;
 use stamp::NewBlock;
-use tree::{Anchor, BlockIndex, Error, Nonce, ranges};
+use tree::{Anchor, BlockIndex, Error, ranges};
 
 // Makes an empty card for the anchor that a format or a wipe gives. `IsCard` is asked as in stamp, which writes the card.
 pub fn blank(anchor: Anchor, card: &mut [u8]) -> u64
@@ -70,10 +71,28 @@ pub fn write(
         (outcome (cmac_of anchor.key) anchor card.old (write index.0 block.now ranges.old))
         (answer_in result.value) result.count (result_unwrap_or result.value anchor) card.new ranges.new }
 {
+    let context = Context::new(anchor.key);
+    write_under(&context, anchor, card, index, block, ranges)
+}
+
+// The same under the context of the anchor's key, which the count has in it.
+pub fn write_under(
+    context: &Context,
+    anchor: Anchor,
+    card: &mut [u8],
+    index: BlockIndex,
+    block: &[u8],
+    ranges: &mut [u8],
+) -> Counted<Result<Anchor, Error>>
+    requires key { ContextOf anchor.key context.now }
+    requires limits { first_failing (limits anchor card.old (write index.0 block.now ranges.old)) ≡ none }
+    ensures { Reports (subkeys_count anchor.key) (cmac_count anchor.key)
+        (outcome (cmac_of anchor.key) anchor card.old (write index.0 block.now ranges.old))
+        (answer_in result.value) result.count (result_unwrap_or result.value anchor) card.new ranges.new }
+{
     let seen = BlockView::of(anchor, card, index);
     let path = seen.path();
-    let context = Context::new(anchor.key);
-    let found = walk::pairs(&context, &seen);
+    let found = walk::pairs(context, &seen);
     let count = context.count + found.count;
     if let Err(error) = found.value {
         return Counted {
@@ -83,13 +102,13 @@ pub fn write(
     }
     let new = NewBlock {
         path,
-        last: anchor.root,
+        last: anchor.reserved,
         bytes: block,
     };
-    let tagged = new.stamp(&context, card);
+    let tagged = new.stamp(context, card);
     ranges::fill(path, ranges);
     Counted {
-        value: Ok(moved(anchor)),
+        value: Ok(anchor.renew()),
         count: count + tagged,
     }
 }
@@ -116,21 +135,10 @@ pub fn wipe(anchor: Anchor, card: &mut [u8]) -> Counted<Anchor>
         (outcome (cmac_of anchor.key) anchor card.old wipe)
         Whole result.count result.value card.new [] }
 {
-    let wiped = moved(anchor);
+    let wiped = anchor.renew();
     let count = blank(wiped, card);
     Counted {
         value: wiped,
         count,
-    }
-}
-
-// The anchor behind a write or a wipe: the root nonce has moved by the depth.
-fn moved(anchor: Anchor) -> Anchor
-    requires { anchor.root.0 + anchor.depth < 2 ^ 64 }
-    ensures { result ≡ rooted anchor (anchor.root.0 + anchor.depth) }
-{
-    Anchor {
-        root: Nonce(anchor.root.0 + anchor.depth),
-        ..anchor
     }
 }

@@ -1,5 +1,5 @@
 -- A plan of the lengths that are right is planned.
-use Rattle.std.proofs.Common.{rules, ap, ◌∙◌}
+use Rattle.std.proofs.Common.{rules, sym, ap, ◌∙◌}
 use Rattle.host_bytes.specs.Host.{anchor_of}
 use Rattle.host_bytes.proofs.SplitLaws.{plan_measured}
 use Rattle.host_bytes.proofs.Sizes as Sizes
@@ -12,5 +12,7 @@ pub returns : goal.returns
 returns c =
     let anchor = c.in-Some.ensures.cases in
     let plan = c.in-Some-as_mut_array.ensures.cases in
-    plan_measured _ _ _ _ _ _ _ c.plan-made.ensures c.of.ensures c.settle.ensures
-    (c.of-given.ensures ∙ ap anchor_of anchor.same) plan.same anchor.long plan.long (search rules) (search rules)
+    let given = c.of-given.ensures in
+    plan_measured _ _ _ _ _ _ _ c.plan-made.ensures c.of.ensures
+    (rw (sym given) at c.settle.ensures.anchor_after) (rw (sym given) at c.settle.ensures.plan_after)
+    (given ∙ ap anchor_of anchor.same) anchor.same plan.same anchor.long plan.long (search rules) (search rules)

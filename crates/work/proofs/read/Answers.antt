@@ -1,4 +1,5 @@
 -- What the walk along the path found and counted under the context is so under the key, and what is whole gives the block.
+use Rattle.tree.specs.declared.Anchor.{Anchor}
 use Rattle.std.proofs.Common.{◌≡◌, ℕ, ◌+◌, ◌^◌, List, length, cond, sym, ap, ◌∙◌, arith}
 use Rattle.std.specs.Result.{is_ok}
 use Rattle.std.proofs.lemmas.List.Edits.{sets}
@@ -15,8 +16,9 @@ use Rattle.work.proofs.read.Goals as goal
 use Rattle.work.proofs.read.Goals.{then-is_ok, else-is_ok}
 
 -- the block fills the buffer
-full-block : (n t i : ℕ) (card buffer : List ℕ) → Reads n t card i buffer → length (label n card (2 ^ n + i)) ≡ length buffer
-full-block n t i card buffer p =
+full-block : (a : Anchor) (i : ℕ) (card buffer : List ℕ) → Reads a card i buffer → length (label a.depth card (2 ^ a.depth + i)) ≡ length buffer
+full-block a i card buffer p =
+    let n = a.depth in
     let u = 2 ^ n + i in
     length_label n card u p.sound.full (leaf-node n i p.sound.deep p.inside) ∙ omega (arith, leaf n u (omega arith))
 
@@ -34,7 +36,7 @@ put-requires c =
     omega (
       arith,
       ap length e,
-      full-block a.depth a.root.0 c.args.index.0 c.args.card.now c.args.buffer.now
+      full-block a c.args.index.0 c.args.card.now c.args.buffer.now
           (passed a c.args.card.now (read c.args.index.0 c.args.buffer.now) c.requires),
     )
 
@@ -69,7 +71,7 @@ returns c =
           rw (← c.is_ok.ensures.value, w.if-is_ok.true)
           (w.buffer-is ∙ w.put.ensures ∙ ap (sets buffer 0) (rw (b.depth, b.bytes, b.index) at w.bytes.ensures)
           ∙ sets-whole (label a.depth card (2 ^ a.depth + i)) buffer
-          (sym (full-block a.depth a.root.0 i card buffer (passed a card (read i buffer) c.requires))))
+          (sym (full-block a i card buffer (passed a card (read i buffer) c.requires))))
       | else-is_ok w ↦ rw (← c.is_ok.ensures.value, w.if-is_ok.false) w.buffer-is
     ] in
     reports-read a card i buffer _ _ _ c.requires

@@ -53,6 +53,7 @@ returns c =
     let card = c.args.card.now in
     let n = a.depth in
     let t = a.root.0 in
+    let r = a.reserved.0 in
     let i = c.args.index.0 in
     let block = c.args.block.now in
     let ranges = c.args.ranges.now in
@@ -66,16 +67,20 @@ returns c =
     elim c.match-found.branch [
       | in-Ok w ↦
           rw (w.value-is, w.card-is, w.ranges-is, w.messages-is)
-          (plan-whole a card i block ranges c.args.messages.now _ _ _ _ _ c.requires
-          (ap answer_in (sym w.in-Ok.is) ∙ found) count
+          (plan-whole a card i block ranges c.args.messages.now _ _ _ _ _ _ c.requires
+          (ap answer_in (sym w.in-Ok.is) ∙ found) count w.raise.ensures
           (w.lay.ensures.value
-          ∙ ap₂ (λ (j m : ℕ). let q : Plan = record { index = record { 0 = j }; root = record { 0 = t + m }; filled = 0 } in q)
+          ∙ ap₂ (λ (j m : ℕ). let q : Plan = record { index = record { 0 = j }; root = record { 0 = r + m }; filled = 0 } in q)
           (path.index ∙ ap (λ (i : BlockIndex). i.0) v.index) (path.depth ∙ v.depth))
-          (rw (path.depth, path.index, v.depth, v.index) at w.lay.ensures.card_after) (rw (path.depth, path.index, v.depth, v.index) at w.lay.ensures.ranges_after)
-          ((rw (path.depth, path.index, v.depth, v.index) at w.lay.ensures.messages_after)
-          ∙ ap (λ (k : ℕ). joined (map (given (written_labels n t t card i block)) (plan_nodes n i)) ++ drop k c.args.messages.now)
-          (sym (messages-bytes n t i card block (sound-card s.sound) s.inside s.long))))
+          (rw (path.depth, path.index, v.depth, v.index) at (w.lay.ensures.card_after t)) (rw (path.depth, path.index, v.depth, v.index) at w.lay.ensures.ranges_after)
+          ((rw (path.depth, path.index, v.depth, v.index) at (w.lay.ensures.messages_after t))
+          ∙ ap (λ (k : ℕ). joined (map (given (written_labels n t r card i block)) (plan_nodes n i)) ++ drop k c.args.messages.now)
+          (sym (messages-bytes n t r i card block (sound-card s.sound) s.inside s.long))))
       | in-Err w ↦
           rw (w.value-is, w.card-is, w.ranges-is, w.messages-is)
           (plan-wrong a card i block ranges c.args.messages.now _ _ c.requires (ap answer_in (sym w.in-Err.is) ∙ found) count)
     ]
+
+pub raise-requires : goal.raise-requires
+raise-requires c =
+    (passed c.args.anchor c.args.card.now (write c.args.index.0 c.args.block.now c.args.ranges.now) c.requires).unspent

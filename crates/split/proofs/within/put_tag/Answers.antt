@@ -20,7 +20,7 @@ use Rattle.split.proofs.within.put_tag.Goals as goal
 
 -- what the limits leave
 record Passed (a : Anchor) (p : Plan) (card : List ℕ) (u : ℕ) : Type 0 where
-  sound : Sound a.depth a.root.0 card
+  sound : Sound a card
   waits : awaits a.depth p u ≡ true
   node : IsNode a.depth u
 

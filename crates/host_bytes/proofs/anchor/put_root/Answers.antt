@@ -1,7 +1,0 @@
-use mathlib.Core.Path.{ap, ◌∙◌}
-use lib.Seq.{sets}
-use Rattle.host_bytes.proofs.StoredLaws.{stored-is}
-use Rattle.host_bytes.proofs.anchor.put_root.Goals as goal
-
-pub returns : goal.returns
-returns c = c.put.ensures ∙ ap (sets c.args.bytes.now 24) c.be.ensures ∙ stored-is c.args.bytes.now 24 c.told-bytes c.args.root.0
