@@ -1,0 +1,2 @@
+-- The journal of a write.
+pub mod Journal
