@@ -1,0 +1,5 @@
+-- Laws of journals.
+pub mod LevelLaws
+pub mod GatherLaws
+pub mod ScatterLaws
+pub mod FillLaws
