@@ -3,3 +3,5 @@ pub mod LevelLaws
 pub mod GatherLaws
 pub mod ScatterLaws
 pub mod FillLaws
+pub mod BlockLaws
+pub mod CandidateLaws

@@ -2,14 +2,15 @@
 // crates above. specs/ has the definitions.
 #![tactic(auto)]
 
-ghost use Rattle.std.specs.Prelude.{◌≡◌, ◌++◌, ◌+◌, ◌*◌, ◌≤◌, length, drop};
+ghost use Rattle.std.specs.Prelude.{◌≡◌, ℕ, ◌++◌, ◌+◌, ◌*◌, ◌^◌, ◌≤◌, ◌<◌, length, drop, IfSome, MatchOption};
+ghost use Rattle.std.proofs.Math.Option.{none, some};
 ghost use Rattle.std.proofs.lemmas.List.Edits.{sets};
 ghost use Rattle.words.specs.Bytes.{part};
 ghost use Rattle.tree.specs.Layout.{IsCard};
-ghost use Rattle.tree.specs.Ranges.{range_of, ranges_of};
-ghost use Rattle.journal.specs.Journal.{gathered, scattered, message_length, journal_length, journal_message};
+ghost use Rattle.tree.specs.Ranges.{range_of, ranges_of, encode};
+ghost use Rattle.journal.specs.Journal.{gathered, scattered, message_length, journal_length, journal_message, block_of};
 
-use tree::{Entry, Node, Nonce, Path, numbers, ranges};
+use tree::{BlockIndex, Depth, Entry, Node, Nonce, Path, numbers, ranges};
 use words::Packed;
 
 // A range of a card.
@@ -130,5 +131,41 @@ pub fn lay(path: Path, new: &[u8], card: &mut [u8])
         let (lower, upper) = own.pair();
         let next = lay_entry(own, Entry { depth, node: lower }, new, place, card);
         lay_entry(own, Entry { depth, node: upper }, new, next, card);
+    }
+}
+
+// The block that has this list of ranges if any has: where the lower leaf of the last two ranges, or its tag, starts tells it.
+fn candidate(depth: Depth, list: &[u8]) -> BlockIndex
+    requires deep { 1 ≤ depth.levels }
+    requires list { length list.now ≡ 16 * depth.levels }
+    ensures { (i : ℕ) → i < 2 ^ depth.levels → list.now ≡ encode (ranges_of depth.levels i) → result.0 ≡ i }
+{
+    let leaf = Entry {
+        depth,
+        node: Node(depth.leaves()),
+    };
+    let first = leaf.offset() as u64;
+    let place = (16 * (depth.levels - 1)) as usize;
+    let start = numbers::be(u32::at(list, place)) as u64;
+    BlockIndex((start + 16).saturating_sub(first) / 80)
+}
+
+// The block whose write has this list of ranges, if any has.
+pub fn block(depth: Depth, list: &[u8]) -> Option<BlockIndex>
+    requires deep { 1 ≤ depth.levels }
+    requires list { length list.now ≡ 16 * depth.levels }
+    ensures found { MatchOption result (block_of depth.levels list.now ≡ none) (λ index. block_of depth.levels list.now ≡ some index.0) }
+    ensures on_card { IfSome result (λ index. index.0 < 2 ^ depth.levels) }
+{
+    let index = candidate(depth, list);
+    if depth.leaves() <= index.0 {
+        return None;
+    }
+    let mut expected = [0u8; 256];
+    ranges::fill(Path { depth, index }, &mut expected);
+    if list == &expected[..list.len()] {
+        Some(index)
+    } else {
+        None
     }
 }
