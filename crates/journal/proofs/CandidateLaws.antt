@@ -1,19 +1,19 @@
 -- Where the lower leaf of a write's last pair of ranges starts tells the block.
-use mathlib.Core.Path.{◌≡◌, refl, sym, ap, subst, ◌∙◌}
+use mathlib.Core.Path.{◌≡◌, refl, ap, subst, ◌∙◌}
 use mathlib.Core.List.Memᴰ
-use mathlib.Core.List.{List, [], ◌∷◌, ◌++◌, Memᴰ, reverse}
-use mathlib.Core.Logic.{◌⊎◌, inl, inr, ⊎_elim}
-use Prim.Native.Nat.{ℕ, zero, suc, ◌+◌, ◌*◌, ◌-◌, ◌/◌, ◌^◌, ◌<◌, ◌≤◌}
+use mathlib.Core.List.{List, Memᴰ, reverse}
+use mathlib.Core.Logic.{⊎_elim}
+use Prim.Native.Nat.{ℕ, suc, ◌+◌, ◌*◌, ◌-◌, ◌/◌, ◌^◌, ◌<◌, ◌≤◌}
 use native.Mathlib.Nat.{pow-suc}
 use native.Mathlib.Omega.{arith}
-use lib.ListN.{length, take, drop}
+use lib.ListN.{take}
 use lib.Seq.{take_at, drop_at}
 use Rattle.words.specs.Bytes.{part}
 use Rattle.words.specs.Words.{bytes}
 use Rattle.words.proofs.Bytes.{bytes-inj}
 use Rattle.words.proofs.Cases.{equal_or_not}
 use Rattle.tree.specs.Numbers.{be}
-use Rattle.tree.specs.Layout.{offset, size}
+use Rattle.tree.specs.Layout.{offset}
 use Rattle.tree.specs.Nodes.{path_node}
 use Rattle.tree.specs.Ranges.{Range, range_of, range_pair, ranges_to, ranges_of, encode}
 use Rattle.tree.proofs.ByteLaws.{length-be}
@@ -70,10 +70,11 @@ pub record Tells (n i : ℕ) (list : List ℕ) : Type 0 where
 pub lower-tells : (n i : ℕ) → 1 ≤ n → n ≤ 16 → i < 2 ^ n → Tells n i (encode (ranges_of n i))
 lower-tells n i h l inside =
     let q : suc (n - 1) ≡ n = omega arith in
-    let m : Memᴰ (lower n i (n - 1)) (ranges_of n i) = subst (λ (k : ℕ). Memᴰ (lower n i (n - 1)) (ranges_to n i k)) q (lower-among n i (n - 1)) in
+    let r = lower n i (n - 1) in
+    let m : Memᴰ r (ranges_of n i) = subst (λ (k : ℕ). Memᴰ r (ranges_to n i k)) q (lower-among n i (n - 1)) in
     record {
-      start = (lower n i (n - 1)).start;
-      short = omega (arith, range-short n i inside h l (lower n i (n - 1)) m);
-      here = subst (λ (k : ℕ). part (encode (ranges_to n i k)) (16 * (n - 1)) 4 ≡ be 4 (lower n i (n - 1)).start) q (lower-part n i (n - 1));
+      start = r.start;
+      short = omega (arith, range-short n i inside h l r m);
+      here = subst (λ (k : ℕ). part (encode (ranges_to n i k)) (16 * (n - 1)) 4 ≡ be 4 r.start) q (lower-part n i (n - 1));
       tells = lower-leaf n i (path_node n i (suc (n - 1))) h (ap (path_node n i) q ∙ path-leaf n i inside);
     }

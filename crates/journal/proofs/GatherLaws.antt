@@ -2,7 +2,7 @@
 use mathlib.Core.Path.{◌≡◌, refl, sym, ap, ap₂, subst, ◌∙◌}
 use mathlib.Core.List.Memᴰ
 use mathlib.Core.List.{List, [], ◌∷◌, ◌++◌, append_assoc, append-nil, Memᴰ}
-use Prim.Native.Nat.{ℕ, zero, suc, ◌+◌, ◌*◌, ◌/◌, ◌^◌, ◌<◌, ◌≤◌}
+use Prim.Native.Nat.{ℕ, suc, ◌+◌, ◌*◌, ◌/◌, ◌^◌, ◌<◌, ◌≤◌}
 use native.Mathlib.Numerals.{add-one}
 use native.Mathlib.Omega.{arith}
 use lib.ListN.{length, length-append, length-take, length-drop}
@@ -79,7 +79,8 @@ module _ (n i : ℕ) (inside : i < 2 ^ n) (deep : 1 ≤ n) where
         let p = gathered-inner y h in
         let q = length-part card a.start a.count (fit (suc y) h a (Memᴰ.append_right (ranges_to n i y) (Memᴰ.head refl))) in
         let l : o + length g ≡ o + 40 * y = omega arith in
-        let stored : sets s o (gathered (ranges_to n i (y + 1)) card) ≡ sets (sets t (o + 40 * y) (piece a)) (o + 40 * y + a.count) (piece b) =
+        let stored : sets s o (gathered (ranges_to n i (y + 1)) card)
+        ≡ sets (sets t (o + 40 * y) (piece a)) (o + 40 * y + a.count) (piece b) =
         ap (λ (k : ℕ). sets s o (gathered (ranges_to n i k) card)) (add-one y)
         ∙ ap (sets s o) (gathered-append (ranges_to n i y) (range_pair n i (suc y)) card)
         ∙ sets-append s o g (piece a ++ (piece b ++ []))

@@ -1,10 +1,10 @@
 -- A level of a write: both children of the parent of its node are on the card, and the new bytes of a journal have room for their ranges.
-use mathlib.Core.Path.{◌≡◌, sym, ap, ap₂, subst}
+use mathlib.Core.Path.{◌≡◌, sym, ap, subst}
 use Prim.Native.Nat.{ℕ, ◌+◌, ◌*◌, ◌/◌, ◌^◌, ◌<◌, ◌≤◌}
 use native.Mathlib.Omega.{arith}
 use Rattle.tree.specs.Layout.{IsNode}
 use Rattle.tree.specs.Nodes.{path_node}
-use Rattle.tree.specs.Ranges.{Range, range_of}
+use Rattle.tree.specs.Ranges.{range_of}
 use Rattle.tree.proofs.LayoutLaws.{size_low}
 use Rattle.tree.proofs.NodeLaws.{path-node, twin-node}
 use Rattle.tree.proofs.RangeLaws.{pair-total}

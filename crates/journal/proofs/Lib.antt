@@ -3,5 +3,8 @@ pub mod LevelLaws
 pub mod GatherLaws
 pub mod ScatterLaws
 pub mod FillLaws
+pub mod ViewLaws
 pub mod BlockLaws
 pub mod CandidateLaws
+pub mod BackLaws
+pub mod JournalLaws

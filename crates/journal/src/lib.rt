@@ -2,6 +2,8 @@
 // crates above. specs/ has the definitions.
 #![tactic(auto)]
 
+pub mod view;
+
 ghost use Rattle.std.specs.Prelude.{◌≡◌, ℕ, ◌++◌, ◌+◌, ◌*◌, ◌^◌, ◌≤◌, ◌<◌, length, drop, IfSome, MatchOption};
 ghost use Rattle.std.proofs.Math.Option.{none, some};
 ghost use Rattle.std.proofs.lemmas.List.Edits.{sets};
@@ -11,6 +13,7 @@ ghost use Rattle.tree.specs.Ranges.{range_of, ranges_of, encode};
 ghost use Rattle.journal.specs.Journal.{gathered, scattered, message_length, journal_length, journal_message, block_of};
 
 use tree::{BlockIndex, Depth, Entry, Node, Nonce, Path, numbers, ranges};
+pub use view::{JournalView, put_tag};
 use words::Packed;
 
 // A range of a card.
@@ -41,13 +44,7 @@ impl Span {
 }
 
 // Puts the bytes of that range at a place of the buffer, and tells where they end.
-fn gather_entry(
-    own: Node,
-    entry: Entry,
-    card: &[u8],
-    buffer: &mut [u8],
-    place: usize,
-) -> usize
+fn gather_entry(own: Node, entry: Entry, card: &[u8], buffer: &mut [u8], place: usize) -> usize
     requires card { IsCard entry.depth.levels card.now }
     requires room { place + (range_of entry.depth.levels own.0 entry.node.0).count ≤ length buffer.old }
     ensures filled { let range = range_of entry.depth.levels own.0 entry.node.0 in
@@ -55,11 +52,7 @@ fn gather_entry(
     ensures end { result ≡ place + (range_of entry.depth.levels own.0 entry.node.0).count }
 {
     let range = Span::of(own, entry);
-    words::put(
-        buffer,
-        place,
-        &card[range.start..range.start + range.count],
-    );
+    words::put(buffer, place, &card[range.start..range.start + range.count]);
     place + range.count
 }
 
@@ -74,13 +67,7 @@ fn gather(path: Path, card: &[u8], buffer: &mut [u8], start: usize)
         let place = start + (40 * level) as usize;
         let own = path.node(level + 1);
         let (lower, upper) = own.pair();
-        let next = gather_entry(
-            own,
-            Entry { depth, node: lower },
-            card,
-            buffer,
-            place,
-        );
+        let next = gather_entry(own, Entry { depth, node: lower }, card, buffer, place);
         gather_entry(own, Entry { depth, node: upper }, card, buffer, next);
     }
 }
@@ -99,13 +86,7 @@ pub fn fill(path: Path, root: Nonce, card: &[u8], journal: &mut [u8])
 }
 
 // Puts the bytes of a node's range back on the card from a place of a journal's new bytes, and tells where they end.
-fn lay_entry(
-    own: Node,
-    entry: Entry,
-    new: &[u8],
-    place: usize,
-    card: &mut [u8],
-) -> usize
+fn lay_entry(own: Node, entry: Entry, new: &[u8], place: usize, card: &mut [u8]) -> usize
     requires card { IsCard entry.depth.levels card.old }
     requires room { place + (range_of entry.depth.levels own.0 entry.node.0).count ≤ length new.now }
     ensures laid { let range = range_of entry.depth.levels own.0 entry.node.0 in

@@ -1,8 +1,7 @@
-use Rattle.std.proofs.Common.{◌≡◌, true, false, ℕ, List, length, take, sym, ap, ◌∙◌, arith}
-use lib.Pointwise.{pointwise, bytes_decides}
-use Rattle.std.specs.Prelude.{nat_eq}
+use Rattle.std.proofs.Common.{◌≡◌, true, false, ℕ, length, take, sym, ap, ◌∙◌, arith}
+use lib.Pointwise.{bytes_decides}
 use Rattle.tree.specs.Ranges.{ranges_of, encode}
-use Rattle.journal.proofs.BlockLaws.{IsList, block-is, no-block, listed-front}
+use Rattle.journal.proofs.BlockLaws.{block-is, no-block, listed-front}
 use Rattle.journal.proofs.block.Goals as goal
 
 pub returns-then-leaves-index-clause-found : goal.returns-then-leaves-index-clause-found

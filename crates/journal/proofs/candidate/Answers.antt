@@ -1,8 +1,7 @@
-use Rattle.std.proofs.Common.{◌≡◌, ◌+◌, ◌*◌, ◌-◌, ◌/◌, ◌^◌, ◌≤◌, ◌<◌, ℕ, List, ap, ap₂, ◌∙◌, arith}
+use Rattle.std.proofs.Common.{◌≡◌, ◌+◌, ◌*◌, ◌-◌, ◌/◌, ◌^◌, ◌≤◌, ℕ, List, ap, ap₂, ◌∙◌, arith}
 use lib.Pow.{pow_mono}
 use Rattle.words.specs.Bytes.{part}
-use Rattle.words.specs.Words.{bytes}
-use Rattle.tree.specs.Layout.{IsNode, offset}
+use Rattle.tree.specs.Layout.{offset}
 use Rattle.journal.proofs.CandidateLaws.{number-read, lower-tells}
 use Rattle.journal.proofs.candidate.Goals as goal
 

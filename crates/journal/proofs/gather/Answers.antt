@@ -1,4 +1,4 @@
-use Rattle.std.proofs.Common.{◌≡◌, ◌+◌, ◌*◌, ℕ, List, refl, ap₂, ◌∙◌, arith}
+use Rattle.std.proofs.Common.{◌+◌, ◌*◌, ℕ, List, refl, ap₂, ◌∙◌, arith}
 use Rattle.std.proofs.lemmas.List.Edits.{sets}
 use Rattle.words.specs.Bytes.{part}
 use Rattle.tree.specs.Ranges.{range_of, ranges_to}
@@ -21,7 +21,11 @@ invariant_of-gather_entry c = record {
 pub gather_entry-next-requires-clause-room : goal.gather_entry-next-requires-clause-room
 gather_entry-next-requires-clause-room c =
     let p = c.pair in
-    omega (arith, level-room c.args.path.depth.levels c.loop-level.level c.node-own.result.0 p.result.0.0 p.result.1.0 (omega arith) p.ensures.lower p.ensures.upper)
+    let n = c.args.path.depth.levels in
+    omega (
+      arith,
+      level-room n c.loop-level.level c.node-own.result.0 p.result.0.0 p.result.1.0 (omega arith) p.ensures.lower p.ensures.upper,
+    )
 
 pub gather_entry-requires-clause-room : goal.gather_entry-requires-clause-room
 gather_entry-requires-clause-room c =
@@ -30,7 +34,7 @@ gather_entry-requires-clause-room c =
       arith,
       c.gather_entry-next.ensures.end,
       level-room c.args.path.depth.levels c.loop-level.level c.node-own.result.0 p.result.0.0 p.result.1.0 (omega arith) p.ensures.lower
-      p.ensures.upper,
+          p.ensures.upper,
     )
 
 pub loop-level-preserved : goal.loop-level-preserved

@@ -1,7 +1,5 @@
 -- The range lies on the card.
-use Rattle.std.proofs.Common.{◌≡◌, ℕ, ◌+◌, ◌≤◌, arith}
-use Rattle.tree.specs.Ranges.{range_of}
-use Rattle.tree.specs.Layout.{IsNode, offset, size}
+use Rattle.std.proofs.Common.{arith}
 use Rattle.tree.proofs.LayoutLaws.{entry-on, entry-small}
 use Rattle.tree.proofs.RangeLaws.{range-ends}
 use Rattle.journal.proofs.gather_entry.Goals as goal

@@ -9,4 +9,5 @@ put-requires c =
     let e = c.args.entry in
     let n = e.depth.levels in
     let w = e.node.0 in
-    simp length-take (omega (arith, c.of-range.ensures, range-ends n c.args.own.0 w, entry-on n c.args.card.now w c.requires.card e.on_card))
+    let r = range-ends n c.args.own.0 w in
+    simp length-take (omega (arith, c.of-range.ensures, r, entry-on n c.args.card.now w c.requires.card e.on_card))
