@@ -45,25 +45,25 @@ rising-weak : (k : ℕ) (rs : List Range) (m : ℕ) → Rising k rs m → k ≤ 
 rising-weak k [] m a = a
 rising-weak k (r ∷ rs) m a = let e = rising-weak (r.start + r.count) rs m a.1 in omega (arith, a.0)
 
-rising-end : (k : ℕ) (rs : List Range) (m : ℕ) → Rising k rs m → (r : Range) → Memᴰ r rs → r.start + r.count ≤ m
+pub rising-end : (k : ℕ) (rs : List Range) (m : ℕ) → Rising k rs m → (r : Range) → Memᴰ r rs → r.start + r.count ≤ m
 rising-end k [] m a r h = absurd (Memᴰ.not-nil h)
 rising-end k (s ∷ rs) m a r h =
     ⊎_elim (λ (e : r ≡ s). rw e (rising-weak (s.start + s.count) rs m a.1))
     (λ (t : Memᴰ r rs). rising-end (s.start + s.count) rs m a.1 r t) (Memᴰ.cases_cons h)
 
-total-append : (rs ss : List Range) → total (rs ++ ss) ≡ total rs + total ss
+pub total-append : (rs ss : List Range) → total (rs ++ ss) ≡ total rs + total ss
 unfolding total
 total-append [] ss = omega arith
 total-append (r ∷ rs) ss = omega (arith, total-append rs ss)
 
 -- Ranges as bytes
 
-encode-append : (rs ss : List Range) → encode (rs ++ ss) ≡ encode rs ++ encode ss
+pub encode-append : (rs ss : List Range) → encode (rs ++ ss) ≡ encode rs ++ encode ss
 unfolding encode
 encode-append [] ss = refl
 encode-append (r ∷ rs) ss = simp (encode-append rs ss, append_assoc)
 
-length-encode : (rs : List Range) → length (encode rs) ≡ 8 * length rs
+pub length-encode : (rs : List Range) → length (encode rs) ≡ 8 * length rs
 unfolding encode
 length-encode [] = refl
 length-encode (r ∷ rs) =
@@ -89,18 +89,18 @@ range-own n u w e = rw (eq-eqb w u e) (record { start_is = refl; count-is = refl
 pub range_other : (n u w : ℕ) → (w ≡ u → ⊥) → RangeIs (range_of n u w) (offset n w + size n w) 16
 range_other n u w d = rw (ne_eqb w u d) (record { start_is = refl; count-is = refl })
 
-record Ends (n u w : ℕ) : Type 0 where
-  low : offset n w ≤ (range_of n u w).start
-  high : (range_of n u w).start + (range_of n u w).count ≡ offset n w + (size n w + 16)
+pub record Ends (n u w : ℕ) : Type 0 where
+  pub low : offset n w ≤ (range_of n u w).start
+  pub high : (range_of n u w).start + (range_of n u w).count ≡ offset n w + (size n w + 16)
 
-range-ends : (n u w : ℕ) → Ends n u w
+pub range-ends : (n u w : ℕ) → Ends n u w
 range-ends n u w =
     ⊎_elim (λ (e : w ≡ u). let p = range-own n u w e in record { low = omega (arith, p); high = omega (arith, p) })
     (λ (d : w ≡ u → ⊥). let p = range_other n u w d in record { low = omega (arith, p); high = omega (arith, p) })
     (equal_or_not w u)
 
 -- the two counts of a pair
-pair-total : (n u : ℕ) → (range_of n u (2 * (u / 2))).count + (range_of n u (2 * (u / 2) + 1)).count ≡ size n u + 32
+pub pair-total : (n u : ℕ) → (range_of n u (2 * (u / 2))).count + (range_of n u (2 * (u / 2) + 1)).count ≡ size n u + 32
 pair-total n u =
     ⊎_elim
     (λ (e : 2 * (u / 2) ≡ u).
@@ -145,7 +145,7 @@ module _ (n i : ℕ) where
 
   module _ (inside : i < 2 ^ n) where
     -- below level n the entries have 24 bytes
-    total-inner : (k : ℕ) → k < n → total (ranges_to n i k) ≡ 40 * k
+    pub total-inner : (k : ℕ) → k < n → total (ranges_to n i k) ≡ 40 * k
     unfolding ranges_to total
     total-inner zero h = refl
     total-inner (suc k) h =
