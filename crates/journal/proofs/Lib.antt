@@ -8,3 +8,4 @@ pub mod BlockLaws
 pub mod CandidateLaws
 pub mod BackLaws
 pub mod JournalLaws
+pub mod JournalledLaws

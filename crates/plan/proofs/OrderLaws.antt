@@ -124,6 +124,10 @@ module _ (F : List ℕ → List ℕ) (F16 : (m : List ℕ) → length (F m) ≡ 
       → (after_all_puts (begun o) xs).anchor ≡ renew a
   filled-anchor xs e = anchor-after xs ∙ ap (λ (b : Bool). cond b (rooted (raise a) t) (raise a)) e
 
+  pub unfilled-anchor : (xs : List PutStep) → full n (after_all_puts (begun o) xs).plan ≡ false
+      → (after_all_puts (begun o) xs).anchor ≡ raise a
+  unfilled-anchor xs e = anchor-after xs ∙ ap (λ (b : Bool). cond b (rooted (raise a) t) (raise a)) e
+
   -- a plan that waits for no tag more is full
   pub waits-none : (xs : List PutStep) → ((u : ℕ) → Waits n (after_all_puts (begun o) xs).plan u → ⊥) → full n (after_all_puts (begun o) xs).plan ≡ true
   waits-none xs free =

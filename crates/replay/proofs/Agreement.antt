@@ -15,12 +15,13 @@ use Rattle.tree.specs.Answer.{Answer}
 use Rattle.tree.specs.Answer.{Whole, Wrong, Refused}
 use Rattle.tree.proofs.LimitLaws.{Passes}
 use Rattle.tree.proofs.CallLaws.{read-checks, write-checks, check-checks, accepted, outcome-answer, outcome-done}
-use Rattle.replay.specs.Run.{Step, call, split, card_of, call_of, told, State, next, after}
-use Rattle.replay.specs.Claim.{Agrees, seen, ChecksTagged, Complete, Accepted, AgreesHere, Forged, AllComplete, Agreement, Forgery}
+use Rattle.replay.specs.Run.{Step, call, split, attempt, card_of, call_of, told, State, stands, next, after}
+use Rattle.replay.specs.Claim.{Agrees, seen, ChecksTagged, Complete, Stands, AgreesHere, Forged, AllComplete, Agreement, Forgery}
 use Rattle.replay.proofs.PlaceLaws.{first, later, no_place}
 use Rattle.replay.proofs.Along.{everywhere}
-use Rattle.replay.proofs.Safe.{read_same, check-same, write-backs}
-use Rattle.replay.proofs.Moves.{step-answer, Move, still, wrote-block, wiped-card, move}
+use Rattle.replay.proofs.Safe.{read_same, check-same, write-backs, lost-backs}
+use Rattle.replay.proofs.Moves.{step-whole, stands-whole, call-stands, Move, still, wrote-block, lost-block, wiped-card, move}
+use Rattle.plan.proofs.ListLaws.{truth, contrary}
 use Rattle.replay.proofs.Steady.{Safe, safe-steady, wipe-safe}
 
 -- a message is among others or not
@@ -60,32 +61,26 @@ all-or-stray f M (w ∷ us) = go (among-or-not (f w) M) (all-or-stray f M us)
 module _ (F : List ℕ → List ℕ) (F16 : (m : List ℕ) → length (F m) ≡ 16) where
   -- One call
 
-  -- an accepted step checked tagged messages alone, or it forged
-  judge : (s : State) (x : Step) → (Accepted F s.store x → ChecksTagged s x) ⊎ Forged F s x
-  judge s x = go (answer_of F s.store.anchor (card_of x) (call_of x)) refl
-    where
-      is : Accepted F s.store x → answer_of F s.store.anchor (card_of x) (call_of x) ≡ Whole
-      is w = sym (step-answer F s.store x) ∙ w
-
-      not-whole : (o : Answer) → answer_of F s.store.anchor (card_of x) (call_of x) ≡ o → (o ≡ Whole → ⊥)
-          → (Accepted F s.store x → ChecksTagged s x) ⊎ Forged F s x
-      not-whole o e d = inl (λ w. absurd (d (sym e ∙ is w)))
-
-      go : (o : Answer) → answer_of F s.store.anchor (card_of x) (call_of x) ≡ o
-          → (Accepted F s.store x → ChecksTagged s x) ⊎ Forged F s x
-      go (Wrong u) e = not-whole (Wrong u) e (λ p. let z : ◌≡◌ {A = ℕ} 0 1 = cc in omega arith)
-      go (Refused r) e = not-whole (Refused r) e (λ p. let z : ◌≡◌ {A = ℕ} 0 1 = cc in omega arith)
-      go Whole e =
-          ⊎_elim (λ (all : ChecksTagged s x). inl (λ w. all))
-          (λ (k : Stray (seen s.store x) s.tagged (checks s.store.anchor.depth (call_of x))).
-          inr (record {
-            accepted = step-answer F s.store x ∙ e;
-            node = k.node;
-            checked = k.among;
-            right = (accepted F s.store.anchor (card_of x) (call_of x) e).tags-right k.node k.among;
-            untagged = k.stray;
-          }))
-          (all-or-stray (seen s.store x) s.tagged (checks s.store.anchor.depth (call_of x)))
+  -- a step that stands checked tagged messages alone, or it forged
+  judge : (s : State) (x : Step) → (Stands F s.store x → ChecksTagged s x) ⊎ Forged F s x
+  judge s x =
+      ⊎_elim
+      (λ (f : stands F s.store x ≡ true).
+      let w = stands-whole F s.store x f in
+      let e = step-whole F s.store x w in
+      ⊎_elim (λ (all : ChecksTagged s x). inl (λ v. all))
+      (λ (k : Stray (seen s.store x) s.tagged (checks s.store.anchor.depth (call_of x))).
+      inr (record {
+        accepted = w;
+        standing = f;
+        node = k.node;
+        checked = k.among;
+        right = (accepted F s.store.anchor (card_of x) (call_of x) e).tags-right k.node k.among;
+        untagged = k.stray;
+      }))
+      (all-or-stray (seen s.store x) s.tagged (checks s.store.anchor.depth (call_of x))))
+      (λ (f : stands F s.store x ≡ false). inl (λ v. contrary v f))
+      (truth (stands F s.store x))
 
   module _ (s : State) (safe : Safe s) where
     shows : (card : List ℕ) (c : Call) → Passes s.store.anchor card c → ChecksTagged s (call card c)
@@ -98,34 +93,41 @@ module _ (F : List ℕ → List ℕ) (F16 : (m : List ℕ) → length (F m) ≡ 
     shows card wipe p all = tt
     shows card check p all = check-same safe card p.full (λ w h. all w (check-checks s.store.anchor.depth w h)) p.deep
 
-    stays : (x : Step) → (Accepted F s.store x → ChecksTagged s x) → Move F s x → Safe (next F s x)
-    stays x all (still e f) = subst Safe (sym e) safe
+    stays : (x : Step) → (Stands F s.store x → ChecksTagged s x) → Move F s x → Safe (next F s x)
+    stays x all (still e f g h) = subst Safe (sym e) safe
     stays x all (wrote-block i block ranges w) =
         let a = s.store.anchor in
-        let ok = (accepted F a (card_of x) (write i block ranges) w.whole).limits-passed in
+        let k = w.tags in
+        let ok = (accepted F a (card_of x) (write i block ranges) k.whole).limits-passed in
         let n = a.depth in
-        let t = a.root.0 in
-        let tagged = all (step-answer F s.store x ∙ ap (answer_of F a (card_of x)) w.is-write ∙ w.whole) in
         subst Safe (sym w.is)
-        (write-backs n ok.sound.deep t t (card_of x) ok.sound.full i ok.inside block ok.long w.new w.named safe
+        (write-backs n ok.sound.deep a.root.0 a.reserved.0 (card_of x) ok.sound.full i ok.inside block ok.long w.new k.named safe
         ok.unspent
         (λ v m d.
-        tagged v
-        (subst (λ (c : Call). Memᴰ v (checks n c)) (sym w.is-write)
+        all w.standing v
+        (subst (λ (c : Call). Memᴰ v (checks n c)) (sym k.is-write)
         (write-checks n i block ranges ok.inside ok.sound.deep v m d))))
-    stays x all (wiped-card i e q) = subst Safe (sym q) (wipe-safe F F16 s (card_of x) (safe-steady s safe) e)
+    stays x all (lost-block i block ranges w) =
+        let a = s.store.anchor in
+        let k = w.tags in
+        let ok = (accepted F a (card_of x) (write i block ranges) k.whole).limits-passed in
+        subst Safe (sym w.is)
+        (lost-backs a.depth ok.sound.deep a.root.0 a.reserved.0 (card_of x) ok.sound.full i ok.inside block ok.long w.new k.named safe
+        ok.unspent)
+    stays x all (wiped-card card i e q) = subst Safe (sym q) (wipe-safe F F16 s card (safe-steady s safe) e)
 
   -- where all that it checked was tagged, a step agrees with the array
-  pub agrees-tagged : (s : State) → Safe s → (x : Step) → (Accepted F s.store x → ChecksTagged s x) → AgreesHere F s x
+  pub agrees-tagged : (s : State) → Safe s → (x : Step) → (Stands F s.store x → ChecksTagged s x) → AgreesHere F s x
   agrees-tagged s safe (call card c) all w =
       let a = s.store.anchor in
       let e = sym (outcome-answer F a card c) ∙ w in
       subst (λ (o : Outcome). Agrees a.depth s.store.array card o.lent (told c)) (sym (outcome-done F a card c e))
-      (shows s safe card c (accepted F a card c e).limits-passed (all w))
+      (shows s safe card c (accepted F a card c e).limits-passed (all (call-stands F s.store card c w)))
   agrees-tagged s safe (split card i block ranges puts) all w = tt
+  agrees-tagged s safe (attempt card i block ranges journal fate) all w = tt
 
   -- and leaves what is known safe
-  pub safe-next : (s : State) → Safe s → (x : Step) → Complete F s.store x → (Accepted F s.store x → ChecksTagged s x)
+  pub safe-next : (s : State) → Safe s → (x : Step) → Complete F s.store x → (Stands F s.store x → ChecksTagged s x)
       → Safe (next F s x)
   safe-next s safe x k all = stays s safe x all (move F F16 s x k)
 
@@ -144,7 +146,7 @@ module _ (F : List ℕ → List ℕ) (F16 : (m : List ℕ) → length (F m) ≡ 
   agreement [] s k safe = inl (λ p. absurd (no_place p))
   agreement (x ∷ xs) s k safe =
       ⊎_elim
-      (λ (all : Accepted F s.store x → ChecksTagged s x).
+      (λ (all : Stands F s.store x → ChecksTagged s x).
       ⊎_elim (λ (rest : Agreement F (next F s x) xs). inl (everywhere F (AgreesHere F) s x xs (agrees-tagged s safe x all) rest))
       (λ (f : Forgery F (next F s x) xs). inr (forged-later s x xs f))
       (agreement xs (next F s x) (λ p. k (later x p)) (safe-next s safe x (k (first x xs)) all)))

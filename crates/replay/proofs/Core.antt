@@ -37,6 +37,10 @@ module _ (T : Frame) where
   abbrev pub AllVouch : ℕ → Labels → List (List ℕ) → Type 0
   AllVouch H I M = (m : List ℕ) → Memᴰ m M → Vouches H I m
 
+  -- no message of a node
+  abbrev pub Foreign : List ℕ → Type 0
+  Foreign m = (v : ℕ) (x p : List ℕ) (s : ℕ) → T.Node v → length x ≡ T.size v → length p ≡ 8 → m ≡ T.form x p s → ⊥
+
   pub all-below : {H : ℕ} {I : Labels} {M : List (List ℕ)} → AllVouch H I M → AllBelow H M
   all-below f m h = (f m h).below
 
@@ -49,6 +53,19 @@ module _ (T : Frame) where
 
   abbrev pub AllNonced : ℕ → Labels → Type 0
   AllNonced H I = (v : ℕ) → T.Node v → Nonced 0 H I v
+
+  -- it has no nonce, and vouches for anything
+  pub foreign-below : {H : ℕ} {m : List ℕ} → Foreign m → Below H m
+  foreign-below f v x s node sized small e = absurd (f v x (be8 s) (v % 2) node sized (length-be 8 s) e)
+
+  pub foreign-vouches : {G H : ℕ} {I : Labels} {m : List ℕ} → AllNonced G I → Foreign m → Vouches H I m
+  foreign-vouches {I = I} nonced f =
+      record {
+        fits = λ v x node sized e.
+            let o = nonced v node in
+            absurd (f v x (I (v / 2)) (v % 2) node sized (ap length o.is ∙ length-be 8 o.nonce) e);
+        below = foreign-below f;
+      }
 
   -- m is a node's message under the labels J, and its parent's nonce is from G up to H
   pub record Says (G H : ℕ) (J : Labels) (m : List ℕ) : Type 0 where
@@ -89,6 +106,14 @@ module _ (T : Frame) where
 
   pub says-below : {G H : ℕ} {J : Labels} {m : List ℕ} → Says G H J m → H ≤ 256 ^ 8 → Below H m
   says-below k top v x s node sized small e = let q = same-nonce k top x s (v % 2) small e in omega (arith, k.fresh.high)
+
+  -- nor does it change what labels without those nonces are vouched for
+  pub says-apart : {G H : ℕ} {I J : Labels} {m : List ℕ} → AllNonced G I → Says G H J m → H ≤ 256 ^ 8 → Vouches H I m
+  says-apart nonced k top =
+      record {
+        fits = λ v x node sized e. absurd (other-nonce k top v x (nonced v node) e);
+        below = says-below k top;
+      }
 
   -- under a parent with a fresh nonce an older message says nothing
   stale : {G H : ℕ} {J : Labels} {m : List ℕ} → Below G m → H ≤ 256 ^ 8 → (v : ℕ) (x : List ℕ) → T.Node v → length x ≡ T.size v

@@ -23,10 +23,10 @@ use Rattle.replay.specs.Tagged.{WriteTags}
 -- the messages that a write tags are the new ones of the children of its path
 module _ (a : Anchor) (card : List ℕ) (i : ℕ) (block ranges : List ℕ) (inside : i < 2 ^ a.depth) (m : List ℕ) where
   abbrev Names : Type 0
-  Names = WriteTags a.depth a.root.0 a.root.0 card i block m
+  Names = WriteTags a.depth a.root.0 a.reserved.0 card i block m
 
   abbrev f : ℕ → List ℕ
-  f = message (written_labels a.depth a.root.0 a.root.0 card i block)
+  f = message (written_labels a.depth a.root.0 a.reserved.0 card i block)
 
   pub tagged-named : Memᴰ m (tagged a card (write i block ranges)) → Names
   tagged-named h =
@@ -47,23 +47,24 @@ module _ (F : List ℕ → List ℕ) (F16 : (m : List ℕ) → length (F m) ≡ 
       ap₂ (λ (m : List ℕ) (l : List (List ℕ)). m ∷ l) (h u (Memᴰ.head refl)) (messages-same f g us (λ v k. h v (Memᴰ.tail k)))
 
   -- of an outcome
-  abbrev tags_in : Call → Outcome → List (List ℕ)
+  abbrev pub tags_in : Call → Outcome → List (List ℕ)
   tags_in c o = cond (is_whole o.answer) (messages o.anchor o.card (tags o.anchor.depth c)) []
 
-  done-tags : (a : Anchor) (card : List ℕ) (c : Call) → Passes a card c → tags_in c (done F a card c) ≡ tagged a card c
+  pub done-tags : (a : Anchor) (card : List ℕ) (c : Call) → Passes a card c → tags_in c (done F a card c) ≡ tagged a card c
   done-tags a card (read i buffer) p = refl
   done-tags a card check p = refl
   done-tags a card (write i block ranges) p =
       let n = a.depth in
       let t = a.root.0 in
-      messages-same (message (labels n (t + n) (written F n t t card i block)))
-      (message (written_labels n t t card i block)) (pairs n i)
+      let r = a.reserved.0 in
+      messages-same (message (labels n (r + n) (written F n t r card i block)))
+      (message (written_labels n t r card i block)) (pairs n i)
       (λ u m.
-      written-message F F16 n p.sound.deep t t card i block p.sound.full p.inside p.long u
+      written-message F F16 n p.sound.deep t r card i block p.sound.full p.inside p.long u
       (child-node n i p.inside u (pairs-child n i p.inside u m)))
   done-tags a card wipe p =
       let n = a.depth in
-      let t = a.root.0 + a.depth in
+      let t = a.reserved.0 + a.depth in
       messages-same (message (labels n t (blanked F n t card))) (message (blank_labels n t)) (all_nodes n)
       (λ u m. blanked-message F F16 n p.sound.deep t card p.sound.full u (among-node n u m))
 

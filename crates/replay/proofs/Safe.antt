@@ -2,16 +2,18 @@
 use mathlib.Core.Path.{◌≡◌, refl, sym, ap, ◌∙◌}
 use mathlib.Core.List.Memᴰ
 use mathlib.Core.List.{List, [], ◌++◌, map, Memᴰ}
-use mathlib.Core.Logic.{⊎_elim}
+use mathlib.Core.Logic.{◌⊎◌, ⊎_elim}
 use Prim.Native.Nat.{ℕ, zero, suc, ◌+◌, ◌/◌, ◌^◌, ◌<◌, ◌≤◌}
 use native.Mathlib.Omega.{arith}
 use borrow.Author.Tests.{eq-eqb, ne_eqb}
 use lib.ListN.{length, set, replicate, get_or-replicate, length-replicate, length-set}
 use lib.Seq.{get_or-set_same, get_or-set_other}
 use lib.Pow.{pow_mono}
-use Rattle.words.proofs.Cases.{equal_or_not}
+use Rattle.words.proofs.Cases.{below_or_not, equal_or_not}
 use Rattle.tree.specs.Numbers.{be8}
-use Rattle.tree.specs.Layout.{IsNode, card_length, label}
+use Rattle.tree.specs.Layout.{IsNode, size, card_length, label}
+use Rattle.tree.proofs.LayoutLaws.{inner, leaf}
+use Rattle.tree.proofs.CountLaws.{length-form}
 use Rattle.tree.specs.Nodes.{path_node, pairs, all_nodes}
 use Rattle.tree.specs.Labels.{Labels, message, labels, blank_labels, new_labels}
 use Rattle.tree.specs.Card.{blanked}
@@ -22,8 +24,8 @@ use Rattle.tree.proofs.LabelLaws.{new-root, new-same, new-sized, new-block}
 use Rattle.tree.proofs.WriteLaws.{blanked-message}
 use Rattle.replay.specs.Array.{Array, zeroed, block_at}
 use Rattle.replay.specs.Tagged.{WriteTags}
-use Rattle.replay.proofs.Core.{Event, Below, AllBelow, AllVouch, AllNonced, Vouches, Says, raise, down, says-below}
-use Rattle.replay.proofs.Core.{event-old, event-new, renewed-old, event-nonced}
+use Rattle.replay.proofs.Core.{Event, Below, AllBelow, AllVouch, AllNonced, Vouches, Says, Foreign, foreign-below, foreign-vouches, raise, down}
+use Rattle.replay.proofs.Core.{says-below, says-apart, event-old, event-new, renewed-old, event-nonced}
 use Rattle.replay.proofs.Events.{frame, blank-nonced, blank-event, child-nonced, write-event}
 
 -- The messages M, with nonces below H, vouch for labels whose root nonce is t and whose blocks are the array's.
@@ -40,6 +42,16 @@ pub record Backs (n H : ℕ) (M : List (List ℕ)) (t : ℕ) (array : Array) : T
 both : (P : List ℕ → Type 0) (N M : List (List ℕ)) → ((m : List ℕ) → Memᴰ m N → P m) → ((m : List ℕ) → Memᴰ m M → P m)
     → (m : List ℕ) → Memᴰ m (N ++ M) → P m
 both P N M f g m h = ⊎_elim (λ (p : Memᴰ m N). f m p) (λ (q : Memᴰ m M). g m q) (Memᴰ.append_cases N h)
+
+-- no label has more than 64 bytes
+size-most : (n v : ℕ) → size n v ≤ 64
+size-most n v =
+    ⊎_elim (λ (l : v < 2 ^ n). omega (arith, inner n v l)) (λ (g : 2 ^ n ≤ v). omega (arith, leaf n v g)) (below_or_not v (2 ^ n))
+
+-- a message of more than 73 bytes is no node's
+long-foreign : (n : ℕ) (m : List ℕ) → 73 < length m → Foreign (frame n) m
+long-foreign n m l v x p s node sized eight e =
+    absurd (omega (arith, ap length e, length-form x p s, sized, eight, size-most n v, l))
 
 -- After a format or a wipe at the nonce t
 
@@ -130,12 +142,12 @@ module _ {n H : ℕ} {M : List (List ℕ)} {t : ℕ} {array : Array} (p : Backs 
 -- After a write: t is the root nonce that the card was read with, r the last nonce used, and new the messages that it tags
 
 module _ (n : ℕ) (deep : 1 ≤ n) (t r : ℕ) (card : List ℕ) (full : length card ≡ card_length n) (i : ℕ) (inside : i < 2 ^ n) (b : List ℕ)
-    (long : length b ≡ 64) (new : List (List ℕ)) (named : (m : List ℕ) → Memᴰ m new → WriteTags n t r card i b m) where
+    (long : length b ≡ 64) (new : List (List ℕ))
+    (named : (m : List ℕ) → Memᴰ m new → WriteTags n t r card i b m ⊎ (73 < length m)) where
   -- where labels agree with the card's off the path, the write's messages are those of the same write on them
   says-under : (J : Labels) → ((w : ℕ) → Memᴰ w (pairs n i) → Off n i inside n w → labels n t card w ≡ J w)
-      → (m : List ℕ) → Memᴰ m new → Says (frame n) (suc r) (suc (r + n)) (new_labels n r i b J) m
-  says-under J keeps m h =
-      let k = named m h in
+      → (m : List ℕ) → WriteTags n t r card i b m → Says (frame n) (suc r) (suc (r + n)) (new_labels n r i b J) m
+  says-under J keeps m k =
       let w = k.node in
       let c : Child n i inside w = record { level = k.level; high = k.high; is = k.child } in
       let L = labels n t card in
@@ -153,8 +165,31 @@ module _ (n : ℕ) (deep : 1 ≤ n) (t r : ℕ) (card : List ℕ) (full : length
   pub write-below : {M : List (List ℕ)} → r + n < 2 ^ 64 → AllBelow (frame n) (suc r) M → AllBelow (frame n) (suc (r + n)) (new ++ M)
   write-below {M} unspent old =
       both (Below (frame n) (suc (r + n))) new M
-      (λ m h. says-below (frame n) (says-under (labels n t card) (λ w k f. refl) m h) (omega arith))
+      (λ m h.
+      ⊎_elim (λ (k : WriteTags n t r card i b m). says-below (frame n) (says-under (labels n t card) (λ w k f. refl) m k) (omega arith))
+      (λ (l : 73 < length m). foreign-below (frame n) (long-foreign n m l))
+      (named m h))
       (λ m h. raise (frame n) {m = m} (omega arith) (old m h))
+
+  -- A lost write's messages say nothing of labels under older nonces, whatever the card showed.
+  pub lost-backs : {M : List (List ℕ)} {u : ℕ} {array : Array} → Backs n (suc r) M u array → r + n < 2 ^ 64
+      → Backs n (suc (r + n)) (new ++ M) u array
+  lost-backs {M} p unspent =
+      record {
+        ideal = p.ideal;
+        root = p.root;
+        vouch = both (Vouches (frame n) (suc (r + n)) p.ideal) new M
+            (λ m h.
+            ⊎_elim
+            (λ (k : WriteTags n t r card i b m).
+            says-apart (frame n) p.nonced (says-under (labels n t card) (λ w k f. refl) m k) (omega arith))
+            (λ (l : 73 < length m). foreign-vouches (frame n) p.nonced (long-foreign n m l)) (named m h))
+            (λ m h. record { fits = (p.vouch m h).fits; below = raise (frame n) {m = m} (omega arith) (p.vouch m h).below });
+        nonced = λ v h. let o = p.nonced v h in record { nonce = o.nonce; is = o.is; low = o.low; high = omega (arith, o.high) };
+        sized = p.sized;
+        count = p.count;
+        blocks = p.blocks;
+      }
 
   pub write-backs : {M : List (List ℕ)} {array : Array} → Backs n (suc r) M t array → r + n < 2 ^ 64
       → ((w : ℕ) → Memᴰ w (pairs n i) → (w ≡ 2 ^ n + i → ⊥) → Memᴰ (message (labels n t card) w) M)
@@ -164,7 +199,10 @@ module _ (n : ℕ) (deep : 1 ≤ n) (t r : ℕ) (card : List ℕ) (full : length
         ideal = new_labels n r i b I₀;
         root = new-root n r i b inside I₀ deep;
         vouch = both (Vouches (frame n) (suc (r + n)) (new_labels n r i b I₀)) new M
-            (λ m h. event-new (frame n) ev (says-under I₀ keeps m h)) (λ m h. event-old (frame n) ev (p.vouch m h));
+            (λ m h.
+            ⊎_elim (λ (k : WriteTags n t r card i b m). event-new (frame n) ev (says-under I₀ keeps m k))
+            (λ (l : 73 < length m). foreign-vouches (frame n) (event-nonced (frame n) ev) (long-foreign n m l)) (named m h))
+            (λ m h. event-old (frame n) ev (p.vouch m h));
         nonced = event-nonced (frame n) ev;
         sized = new-sized n r i b inside I₀ long p.sized;
         count = length-set array i b ∙ p.count;

@@ -1,4 +1,4 @@
--- What holds where every accepted write since the last accepted wipe had an untouched card, and that the wipe makes it so.
+-- What holds where every write that stands since the last accepted wipe had an untouched card, and that the wipe makes it so.
 use mathlib.Core.Path.{◌≡◌, sym, ap, subst, ◌∙◌}
 use mathlib.Core.List.Memᴰ
 use mathlib.Core.List.{List, ◌++◌, map, Memᴰ}
@@ -19,13 +19,15 @@ use Rattle.tree.proofs.WriteLaws.{blanked-message, written-message, Clean}
 use Rattle.tree.proofs.CallLaws.{checks-nodes, accepted, clean-done, clean-wiped, outcome-answer}
 use Rattle.replay.specs.Array.{zeroed}
 use Rattle.replay.specs.Places.{Place}
-use Rattle.replay.specs.Run.{Step, call, split, card_of, call_of, State, next}
+use Rattle.replay.specs.Run.{Step, call, split, attempt, card_of, call_of, State, next}
 use Rattle.replay.specs.Claim
 use Rattle.replay.specs.Claim.{GivenLeft, ChecksTagged, Complete, Untouched, WroteUntouched, AcceptedWipe, known, AllComplete}
 use Rattle.replay.specs.Claim.{Faithful}
 use Rattle.replay.specs.Tagged.{BlankTags, WriteTags}
 use Rattle.replay.proofs.Along.{kept-since}
-use Rattle.replay.proofs.Moves.{step-answer, wrote, Move, still, wrote-block, wiped-card, move, wiped, wipe-moves}
+use Rattle.replay.proofs.Moves.{step-whole, stands-whole, write-tells, wrote, Move, still, wrote-block, lost-block, wiped-card, move, wiped}
+use Rattle.replay.proofs.Moves.{wipe-moves}
+use Rattle.plan.proofs.ListLaws.{contrary}
 use Rattle.replay.proofs.Steady.{Safe, Steady, safe-steady, emptied, wipe-safe, steady-next}
 use Rattle.replay.proofs.Agreement.{safe-next}
 
@@ -42,30 +44,30 @@ LeftTagged s = AllTagged s s.store.left
 module _ (F : List ℕ → List ℕ) (F16 : (m : List ℕ) → length (F m) ≡ 16) where
   -- A write
 
-  module _ (n t : ℕ) (card : List ℕ) (i : ℕ) (b : List ℕ) (deep : 1 ≤ n) (full : length card ≡ card_length n) (inside : i < 2 ^ n)
-      (long : length b ≡ 64) (new M : List (List ℕ)) (names : (m : List ℕ) → WriteTags n t t card i b m → Memᴰ m new) where
+  module _ (n t r : ℕ) (card : List ℕ) (i : ℕ) (b : List ℕ) (deep : 1 ≤ n) (full : length card ≡ card_length n) (inside : i < 2 ^ n)
+      (long : length b ≡ 64) (new M : List (List ℕ)) (names : (m : List ℕ) → WriteTags n t r card i b m → Memᴰ m new) where
     -- it tags the children of its path
-    child-tagged : (w : ℕ) → Child n i inside w → Memᴰ (message (labels n (t + n) (written F n t t card i b)) w) (new ++ M)
+    child-tagged : (w : ℕ) → Child n i inside w → Memᴰ (message (labels n (r + n) (written F n t r card i b)) w) (new ++ M)
     child-tagged w c =
-        Memᴰ.append_left M (names (message (labels n (t + n) (written F n t t card i b)) w) (record {
+        Memᴰ.append_left M (names (message (labels n (r + n) (written F n t r card i b)) w) (record {
           node = w;
           level = c.level;
           high = c.high;
           child = c.is;
-          is = written-message F F16 n deep t t card i b full inside long w (child-node n i inside w c);
+          is = written-message F F16 n deep t r card i b full inside long w (child-node n i inside w c);
         }))
 
     -- and leaves the messages of the other nodes
-    off-same : (w : ℕ) → IsNode n w → Off n i inside n (w / 2) → message (labels n (t + n) (written F n t t card i b)) w ≡ message
+    off-same : (w : ℕ) → IsNode n w → Off n i inside n (w / 2) → message (labels n (r + n) (written F n t r card i b)) w ≡ message
         (labels n t card) w
     off-same w h f =
         let L = labels n t card in
-        written-message F F16 n deep t t card i b full inside long w h
-        ∙ message-same (new_labels n t i b L) L w (new-off n t i b inside L w (off-child n i inside w h f))
-        (new-off n t i b inside L (w / 2) f)
+        written-message F F16 n deep t r card i b full inside long w h
+        ∙ message-same (new_labels n r i b L) L w (new-off n r i b inside L w (off-child n i inside w h f))
+        (new-off n r i b inside L (w / 2) f)
 
     pub all-written : ((u : ℕ) → IsNode n u → Memᴰ (message (labels n t card) u) M) → (u : ℕ) → IsNode n u
-        → Memᴰ (message (labels n (t + n) (written F n t t card i b)) u) (new ++ M)
+        → Memᴰ (message (labels n (r + n) (written F n t r card i b)) u) (new ++ M)
     all-written k u h =
         ⊎_elim (λ (c : Child n i inside u). child-tagged u c)
         (λ (f : Off n i inside n (u / 2)). Memᴰ.append_right new (Memᴰ.cast (off-same u h f) (k u h)))
@@ -100,13 +102,14 @@ module _ (F : List ℕ → List ℕ) (F16 : (m : List ℕ) → length (F m) ≡ 
   pub checks-tagged : (s : State) → LeftTagged s → (x : Step) → GivenLeft s.store x → Claim.Accepted F s.store x → ChecksTagged s x
   checks-tagged s k x left w u m =
       let a = s.store.anchor in
-      let ok = (accepted F a (card_of x) (call_of x) (sym (step-answer F s.store x) ∙ w)).limits-passed in
+      let ok = (accepted F a (card_of x) (call_of x) (step-whole F s.store x w)).limits-passed in
       left-tagged s k x left u (checks-nodes a (card_of x) (call_of x) ok u m)
 
   -- untouched throughout, it was given that card
   pub given-left : (s : State) (x : Step) → Untouched F s.store x → GivenLeft s.store x
   given-left s (call card c) u = u
   given-left s (split card i block ranges puts) u = u.0
+  given-left s (attempt card i block ranges journal fate) u = u
 
   -- What holds: every tag on the card as last left is right and every message on it is tagged, and the tagged messages vouch for the array
 
@@ -121,7 +124,7 @@ module _ (F : List ℕ → List ℕ) (F16 : (m : List ℕ) → length (F m) ≡ 
       let a = s.store.anchor in
       record {
         clean = clean-wiped F F16 a card (accepted F a card wipe e).limits-passed;
-        tagged = λ u h. Memᴰ.append_left s.tagged (blank-tagged a.depth (a.root.0 + a.depth) card u h);
+        tagged = λ u h. Memᴰ.append_left s.tagged (blank-tagged a.depth (a.reserved.0 + a.depth) card u h);
         safe = wipe-safe F F16 s card k e;
       }
 
@@ -132,6 +135,8 @@ module _ (F : List ℕ → List ℕ) (F16 : (m : List ℕ) → length (F m) ≡ 
       let e = ap (answer_of F a card) (sym w.is-wipe) ∙ sym (outcome-answer F a card c) ∙ w.accepted in
       (e, ap (λ (d : Call). next F s (call card d)) w.is-wipe ∙ wipe-moves F F16 s card e)
   wiped-next s (split card i block ranges puts) w = let e = w.is-wipe in let z : ◌≡◌ {A = ℕ} 0 1 = cc in absurd (omega arith)
+  wiped-next s (attempt card i block ranges journal fate) w =
+      let e = w.is-wipe in let z : ◌≡◌ {A = ℕ} 0 1 = cc in absurd (omega arith)
 
   pub good-made : (s : State) (x : Step) → Steady s → AcceptedWipe F s.store x → Good (next F s x)
   good-made s x k w = let q = wiped-next s x w in subst Good (sym q.1) (good-wiped s (card_of x) k q.0)
@@ -148,28 +153,36 @@ module _ (F : List ℕ → List ℕ) (F16 : (m : List ℕ) → length (F m) ≡ 
       a : Anchor
       a = s.store.anchor
 
+      Clean' : State → Type 0
+      Clean' z = Clean F z.store.anchor.depth z.store.anchor.root.0 z.store.left
+
       go : Move F s x → Good (next F s x)
-      go (still e f) = subst Good (sym e) g
-      go (wiped-card i e q) = subst Good (sym q) (good-wiped s (card_of x) (safe-steady s g.safe) e)
+      go (still e f h k) = subst Good (sym e) g
+      go (wiped-card card i e q) = subst Good (sym q) (good-wiped s card (safe-steady s g.safe) e)
+      go (lost-block i block ranges w) =
+          record {
+            clean = subst Clean' (sym w.is) g.clean;
+            tagged = subst LeftTagged (sym w.is) (λ u h. Memᴰ.append_right w.new (g.tagged u h));
+            safe = safe-next F F16 s g.safe x complete (λ v. contrary v w.fallen);
+          }
       go (wrote-block i block ranges w) =
           let c = write i block ranges in
-          let ok = (accepted F a (card_of x) c w.whole).limits-passed in
-          let same = untouched (step-answer F s.store x ∙ ap (answer_of F a (card_of x)) w.is-write ∙ w.whole)
-          (ap is_write w.is-write) in
+          let k = w.tags in
+          let ok = (accepted F a (card_of x) c k.whole).limits-passed in
+          let same = untouched w.standing (ap is_write k.is-write) in
           let given = given-left s x same in
-          let left : w.left ≡ written F a.depth a.root.0 a.root.0 (card_of x) i block = w.untouched same in
+          let left : w.left ≡ written F a.depth a.root.0 a.reserved.0 (card_of x) i block = w.untouched same in
+          let names = λ (m : List ℕ) (h : WriteTags a.depth a.root.0 a.reserved.0 (card_of x) i block m).
+          k.names m (write-tells F s x i block ranges k k.reserved m h) in
           let z = wrote s i block w.left w.new in
           record {
-            clean = subst Clean' (sym w.is) (subst (Clean F a.depth (a.root.0 + a.depth)) (sym left)
+            clean = subst Clean' (sym w.is) (subst (Clean F a.depth (a.reserved.0 + a.depth)) (sym left)
                 (clean-done F F16 a (card_of x) c ok (subst (Clean F a.depth a.root.0) (sym given) g.clean)));
             tagged = subst LeftTagged (sym w.is) (subst (AllTagged z) (sym left)
-                (all-written a.depth a.root.0 (card_of x) i block ok.sound.deep ok.sound.full ok.inside ok.long w.new
-                s.tagged w.names (left-tagged s g.tagged x given)));
-            safe = safe-next F F16 s g.safe x complete (λ v. checks-tagged s g.tagged x given v);
+                (all-written a.depth a.root.0 a.reserved.0 (card_of x) i block ok.sound.deep ok.sound.full ok.inside ok.long w.new
+                s.tagged names (left-tagged s g.tagged x given)));
+            safe = safe-next F F16 s g.safe x complete (λ v. checks-tagged s g.tagged x given (stands-whole F s.store x v));
           }
-        where
-          Clean' : State → Type 0
-          Clean' z = Clean F z.store.anchor.depth z.store.anchor.root.0 z.store.left
 
   pub good-place : (s : State) → Good s → {xs : List Step} (p : Place xs) → AllComplete F s p.before → Faithful F s p.before
       → Good (known F s p)

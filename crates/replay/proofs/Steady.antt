@@ -17,15 +17,15 @@ use Rattle.replay.proofs.PlaceLaws.{first, later}
 use Rattle.replay.proofs.Core.{AllBelow, raise, all-below}
 use Rattle.replay.proofs.Events.{frame}
 use Rattle.replay.proofs.Safe.{Backs, blank-backs, write-below}
-use Rattle.replay.proofs.Moves.{Move, still, wrote-block, wiped-card, move, wiped}
+use Rattle.replay.proofs.Moves.{Tags, Move, still, wrote-block, lost-block, wiped-card, move, wiped}
 
 -- the tagged messages vouch for the array
 abbrev pub Safe : State → Type 0
-Safe s = Backs s.store.anchor.depth (suc s.store.anchor.root.0) s.tagged s.store.anchor.root.0 s.store.array
+Safe s = Backs s.store.anchor.depth (suc s.store.anchor.reserved.0) s.tagged s.store.anchor.root.0 s.store.array
 
--- no tagged message has a nonce above the root's, and the array has a block for each leaf
+-- no tagged message has a nonce above the reserved one, and the array has a block for each leaf
 pub record Steady (s : State) : Type 0 where
-  pub below : AllBelow (frame s.store.anchor.depth) (suc s.store.anchor.root.0) s.tagged
+  pub below : AllBelow (frame s.store.anchor.depth) (suc s.store.anchor.reserved.0) s.tagged
   pub count : length s.store.array ≡ 2 ^ s.store.anchor.depth
 
 pub safe-steady : (s : State) → Safe s → Steady s
@@ -40,7 +40,7 @@ module _ (F : List ℕ → List ℕ) (F16 : (m : List ℕ) → length (F m) ≡ 
     pub wipe-safe : Safe (wiped F s card)
     wipe-safe =
         let n = s.store.anchor.depth in
-        let t = s.store.anchor.root.0 in
+        let t = s.store.anchor.reserved.0 in
         let ok = (accepted F s.store.anchor card wipe e).limits-passed in
         let new = map (message (labels n (t + n) (blanked F n (t + n) card))) (all_nodes n) in
         subst (Backs n (suc (t + n)) (new ++ s.tagged) (t + n)) (sym emptied)
@@ -50,19 +50,22 @@ module _ (F : List ℕ → List ℕ) (F16 : (m : List ℕ) → length (F m) ≡ 
   pub steady-next : (s : State) (x : Step) → Complete F s.store x → Steady s → Steady (next F s x)
   steady-next s x complete k = go (move F F16 s x complete)
     where
+      -- what a write tags
+      below : (i : ℕ) (block ranges : List ℕ) (new : List (List ℕ)) → Tags F s x i block ranges new
+          → AllBelow (frame s.store.anchor.depth) (suc (s.store.anchor.reserved.0 + s.store.anchor.depth)) (new ++ s.tagged)
+      below i block ranges new w =
+          let a = s.store.anchor in
+          let ok = (accepted F a (card_of x) (write i block ranges) w.whole).limits-passed in
+          write-below a.depth ok.sound.deep a.root.0 a.reserved.0 (card_of x) ok.sound.full i ok.inside block ok.long new w.named
+          ok.unspent k.below
+
       go : Move F s x → Steady (next F s x)
-      go (still e f) = subst Steady (sym e) k
+      go (still e f g h) = subst Steady (sym e) k
       go (wrote-block i block ranges w) =
-          let n = s.store.anchor.depth in
-          let t = s.store.anchor.root.0 in
-          let ok = (accepted F s.store.anchor (card_of x) (write i block ranges) w.whole).limits-passed in
-          subst Steady (sym w.is) (record {
-            below =
-                write-below n ok.sound.deep t t (card_of x) ok.sound.full i ok.inside block ok.long w.new w.named
-                ok.unspent k.below;
-            count = length-set s.store.array i block ∙ k.count;
-          })
-      go (wiped-card i e q) = subst Steady (sym q) (safe-steady (wiped F s (card_of x)) (wipe-safe s (card_of x) k e))
+          subst Steady (sym w.is)
+          (record { below = below i block ranges w.new w.tags; count = length-set s.store.array i block ∙ k.count })
+      go (lost-block i block ranges w) = subst Steady (sym w.is) (record { below = below i block ranges w.new w.tags; count = k.count })
+      go (wiped-card card i e q) = subst Steady (sym q) (safe-steady (wiped F s card) (wipe-safe s card k e))
 
   pub steady-after : (xs : List Step) (s : State) → AllComplete F s xs → Steady s → Steady (after F s xs)
   unfolding after

@@ -1,12 +1,11 @@
 -- Demand 3, and what is tagged, for tags by CMAC under any key.
-use mathlib.Core.Path.{◌≡◌, ap, ap₂, subst, sym, ◌∙◌}
+use mathlib.Core.Path.{◌≡◌, refl, ap, ap₂, subst, sym, ◌∙◌}
 use mathlib.Core.List.Memᴰ
 use mathlib.Core.List.{List, [], ◌∷◌, map, append-nil, Memᴰ}
 use mathlib.Core.Logic.{inl, inr, ⊎_elim}
 use Prim.Native.Nat.{ℕ, ◌+◌, ◌*◌, ◌%◌, ◌^◌, ◌<◌, ◌≤◌}
-use native.Mathlib.Nat.{add-zero}
+use Rattle.std.proofs.Math.Nat.{zero-mod}
 use native.Mathlib.Omega.{arith}
-use lib.Arith.{digits_mod}
 use lib.ListN.{length}
 use Rattle.cmac.specs.Cmac.{cmac_of}
 use Rattle.cmac.proofs.Laws.{length-cmac}
@@ -14,24 +13,27 @@ use Rattle.tree.specs.Layout.{card_length}
 use Rattle.tree.specs.Nodes.{all_nodes}
 use Rattle.tree.specs.Labels.{message, labels}
 use Rattle.tree.specs.Card.{blanked}
-use Rattle.tree.specs.Calls.{Call, wipe, tagged, format_card, format}
-use Rattle.tree.specs.Answer.{Answer}
-use Rattle.tree.proofs.LimitLaws.{Passes, passed}
+use Rattle.tree.specs.Calls.{Call, wipe, tagged, formatted, format_card, format}
+use Rattle.tree.specs.Answer.{Answer, Whole}
+use mathlib.Core.Bool.{true, false}
+use Rattle.tree.proofs.LimitLaws.{nonces-pass}
 use Rattle.tree.proofs.WriteLaws.{clean-blanked}
 use Rattle.tree.proofs.CallLaws.{wipe-accepts, outcome-answer, format-accept}
 use Rattle.plan.specs.Puts.{PutStep}
 use Rattle.replay.specs.Array.{zeroed}
 use Rattle.replay.specs.Places.{Place}
-use Rattle.replay.specs.Run.{Step, call, split, card_of, call_of, State, start, new_tags, next, after, renewals}
+use Rattle.plan.specs.Split.{planned}
+use Rattle.replay.specs.Run.{Step, call, split, call_of, State, fills, start, new_tags, next, after}
 use Rattle.replay.specs.Claim.{GivenLeft, Complete, Accepted, AcceptedWipe, known, AllComplete, Faithful, Demand3}
-use Rattle.replay.specs.OneWrite.{OneWrite}
+use Rattle.replay.specs.OneWrite.{OneWrite, LostWrite, OneAttempt}
 use Rattle.replay.specs.Tagged.{ByCall, Unforged, Afresh}
 use Rattle.replay.proofs.Safe.{Backs, blank-backs}
 use Rattle.replay.proofs.PlaceLaws.{earlier, farther}
 use Rattle.replay.proofs.Along.{after-append}
 use Rattle.replay.proofs.NewTags.{new-tags}
-use Rattle.replay.proofs.Anchors.{after-key, after-root}
-use Rattle.replay.proofs.OneWrite.{one-write}
+use Rattle.replay.specs.Nonces.{NonceRule}
+use Rattle.replay.proofs.Anchors.{after-key, after-reserved, Sound, after-sound, after-root}
+use Rattle.replay.proofs.OneWrite.{one-write, lost-plan, one-attempt}
 use Rattle.replay.proofs.Steady.{safe-steady, steady-after}
 use Rattle.replay.proofs.Agreement.{agreement}
 use Rattle.replay.proofs.Since.{blank-tagged, blank-named, named_blank, Good, good-made, made-empty}
@@ -61,7 +63,7 @@ module _ (F : List ℕ → List ℕ) (F16 : (m : List ℕ) → length (F m) ≡ 
   blank =
       let left = blanked F n 0 card in
       record {
-        store = record { anchor = record { key = key; depth = n; root = record { 0 = 0 } }; array = zeroed (2 ^ n); left = left };
+        store = record { anchor = formatted key n; array = zeroed (2 ^ n); left = left };
         tagged = map (message (labels n 0 left)) (all_nodes n);
       }
 
@@ -72,7 +74,7 @@ module _ (F : List ℕ → List ℕ) (F16 : (m : List ℕ) → length (F m) ≡ 
       (λ (o : Answer).
       let left = format_card F o n card in
       let b : State = record {
-        store = record { anchor = record { key = key; depth = n; root = record { 0 = 0 } }; array = zeroed (2 ^ n); left = left };
+        store = record { anchor = formatted key n; array = zeroed (2 ^ n); left = left };
         tagged = map (message (labels n 0 left)) (all_nodes n);
       } in
       b)
@@ -92,36 +94,48 @@ module _ (F : List ℕ → List ℕ) (F16 : (m : List ℕ) → length (F m) ≡ 
   demand3-any xs complete = demanded F F16 begun good_start xs complete
 
   module _ {xs : List Step} (complete : AllComplete F (start F key n card) xs) where
-    -- a step on the card as last left, after accepted writes on untouched cards alone since the last wipe, is accepted within its limits
-    pub accepts-any : (p : Place xs) → Faithful F (start F key n card) p.before
-        → GivenLeft (known F (start F key n card) p).store p.item
-        → Passes (known F (start F key n card) p).store.anchor (card_of p.item) (call_of p.item)
-        → Accepted F (known F (start F key n card) p).store p.item
-    accepts-any p = accepts F F16 begun good_start complete p
-
-    -- after k accepted writes and wipes the root nonce is k n
-    pub root-any : (after F (start F key n card) xs).store.anchor.root.0 ≡ renewals F (start F key n card) xs * n
-    unfolding start format
-    root-any = after-root F F16 xs (start F key n card) complete ∙ omega arith
-
-    -- and key and depth are as the format had them
+    -- key and depth are as the format had them
     pub key-any : ((after F (start F key n card) xs).store.anchor.key ≡ key) × ((after F (start F key n card) xs).store.anchor.depth ≡ n)
     unfolding start format
     key-any = after-key F F16 xs (start F key n card) complete
 
+    -- the nonces
+    sound-any : Sound (after F (start F key n card) xs).store.anchor
+    unfolding start format
+    sound-any =
+        after-sound F F16 xs (start F key n card) complete
+        (record { within = omega arith; multiple = zero-mod n; reserved_multiple = zero-mod n })
+
+    pub nonces-any : NonceRule F (start F key n card) n xs
+    unfolding start format
+    nonces-any =
+        let a = (after F begun xs).store.anchor in
+        let d = key-any.1 in
+        let multiple = ap (λ (m : ℕ). a.root.0 % m) (sym d) ∙ sound-any.multiple in
+        let reserved_multiple = ap (λ (m : ℕ). a.reserved.0 % m) (sym d) ∙ sound-any.reserved_multiple in
+        record {
+          reserved = after-reserved F F16 xs (start F key n card) complete ∙ omega arith;
+          within = sound-any.within;
+          multiple = multiple;
+          reserved_multiple = reserved_multiple;
+          passed = nonces-pass n a.root.0 a.reserved.0 multiple reserved_multiple sound-any.within;
+          root = λ f. after-root F F16 xs (start F key n card) complete f refl ∙ omega arith;
+        }
+
     -- a wipe of any card is accepted while nonces last
-    wipes-any : (other : List ℕ) → length other ≡ card_length n → (after F (start F key n card) xs).store.anchor.root.0 + n < 2 ^ 64
+    wipes-any : (other : List ℕ) → length other ≡ card_length n → (after F (start F key n card) xs).store.anchor.reserved.0 + n < 2 ^ 64
         → Accepted F (after F (start F key n card) xs).store (call other wipe)
     wipes-any other long unspent =
         let a = (after F begun xs).store.anchor in
         let d = key-any.1 in
-        let k = renewals F begun xs in
         outcome-answer F a other wipe
         ∙ wipe-accepts F a other (record {
           sound = record {
             deep = omega (arith, d);
             shallow = omega (arith, d);
-            multiple = ap₂ ◌%◌ root-any d ∙ ap (λ (t : ℕ). t % n) (sym (add-zero (k * n))) ∙ digits_mod k {m = n} {r = 0} (omega arith);
+            multiple = sound-any.multiple;
+            reserved_multiple = sound-any.reserved_multiple;
+            within = sound-any.within;
             full = long ∙ ap card_length (sym d);
           };
           unspent = omega (arith, d);
@@ -151,7 +165,7 @@ module _ (F : List ℕ → List ℕ) (F16 : (m : List ℕ) → length (F m) ≡ 
               (by-calls F F16 xs begun complete m h);
           checked = λ p f u. checked-here F F16 begun good_start complete p f u;
           agrees = λ p f u. agrees-here F F16 begun good_start complete p f u;
-          accepts = λ p f u l. accepts-any p f u (passed (known F begun p).store.anchor (card_of p.item) (call_of p.item) l);
+          accepts = λ p f u l. accepts F F16 begun good_start complete p f u l;
           unforged = none-forged F F16 xs begun complete good_start;
           counted = counted-any;
           agreed = honest-agrees F F16 xs begun complete good_start;
@@ -190,19 +204,32 @@ module _ (key : List ℕ) (n : ℕ) (deep : 1 ≤ n) (shallow : n ≤ 16) (card 
       → call_of p.item ≡ wipe → Afresh (cmac_of key) (start (cmac_of key) key n card) n p
   afresh = afresh-any (cmac_of key) (length-cmac key) key n deep shallow card full complete
 
-  pub root-nonce : (after (cmac_of key) (start (cmac_of key) key n card) xs).store.anchor.root.0 ≡ renewals (cmac_of key)
-      (start (cmac_of key) key n card) xs * n
-  root-nonce = root-any (cmac_of key) (length-cmac key) key n deep shallow card full complete
+  pub nonces : NonceRule (cmac_of key) (start (cmac_of key) key n card) n xs
+  nonces = nonces-any (cmac_of key) (length-cmac key) key n deep shallow card full complete
 
   pub key-kept : ((after (cmac_of key) (start (cmac_of key) key n card) xs).store.anchor.key ≡ key)
       × ((after (cmac_of key) (start (cmac_of key) key n card) xs).store.anchor.depth ≡ n)
   key-kept = key-any (cmac_of key) (length-cmac key) key n deep shallow card full complete
 
-  -- a split write of the list is one write
-  pub one-write-there : (p : Place xs) (other : List ℕ) (i : ℕ) (block ranges : List ℕ) (puts : List PutStep)
-      → p.item ≡ split other i block ranges puts
-      → OneWrite (cmac_of key) (known (cmac_of key) (start (cmac_of key) key n card) p) other i block ranges puts
-  one-write-there p other i block ranges puts e =
-      let s = known (cmac_of key) (start (cmac_of key) key n card) p in
-      one-write (cmac_of key) (length-cmac key) s other i block ranges puts
-      (subst (λ (x : Step). Complete (cmac_of key) s.store x) e (complete p))
+  -- A split write of the list whose puts fill its plan is one write, any other is lost, and so on of an attempt, by its fate.
+  module _ (p : Place xs) (other : List ℕ) (i : ℕ) (block ranges : List ℕ) where
+    abbrev s : State
+    s = known (cmac_of key) (start (cmac_of key) key n card) p
+
+    pub one-write-there : (puts : List PutStep) → p.item ≡ split other i block ranges puts →
+        let o = planned (cmac_of key) (known (cmac_of key) (start (cmac_of key) key n card) p).store.anchor other i block ranges in
+        (o.call.answer ≡ Whole → fills o puts ≡ true)
+        → OneWrite (cmac_of key) (known (cmac_of key) (start (cmac_of key) key n card) p) other i block ranges puts
+    one-write-there puts e f =
+        one-write (cmac_of key) (length-cmac key) s other i block ranges puts f
+        (subst (λ (x : Step). Complete (cmac_of key) s.store x) e (complete p))
+
+    pub lost-plan-there : (puts : List PutStep) →
+        let o = planned (cmac_of key) (known (cmac_of key) (start (cmac_of key) key n card) p).store.anchor other i block ranges in
+        o.call.answer ≡ Whole → fills o puts ≡ false
+        → LostWrite (cmac_of key) (known (cmac_of key) (start (cmac_of key) key n card) p) (split other i block ranges puts)
+    lost-plan-there puts = lost-plan (cmac_of key) (length-cmac key) s other i block ranges puts
+
+    pub one-attempt-there : (journal : List ℕ)
+        → OneAttempt (cmac_of key) (known (cmac_of key) (start (cmac_of key) key n card) p) other i block ranges journal
+    one-attempt-there journal = one-attempt (cmac_of key) (length-cmac key) s other i block ranges journal

@@ -1,4 +1,4 @@
--- Demand 3, as it is claimed of a list of calls and split writes. Every one is shown by its place in the list.
+-- Demand 3, as it is claimed of a list of calls, split writes and attempts. Every one is shown by its place in the list.
 use Rattle.std.specs.Prelude.{ℕ, ◌+◌, ◌^◌, ◌<◌, ◌≡◌, true, ◌⊎◌}
 use mathlib.Core.List.{List, Memᴰ}
 use Rattle.tree.specs.Layout.{label, tag}
@@ -7,12 +7,11 @@ use Rattle.tree.specs.Calls
 use Rattle.tree.specs.Calls.{checks, is_write}
 use Rattle.tree.specs.declared.Node.{Node}
 use Rattle.tree.specs.Answer.{Whole, Wrong}
-use Rattle.plan.specs.Places.{full}
-use Rattle.plan.specs.Split.{Planned, planned}
-use Rattle.plan.specs.Puts.{PutStep, begun, after_all_puts, EachPut, PutUntouched, PutRight}
+use Rattle.plan.specs.Split.{planned}
+use Rattle.plan.specs.Puts.{begun, EachPut, PutUntouched, PutRight}
 use Rattle.replay.specs.Array.{Told, read, write, check, wipe, Array, block_at}
 use Rattle.replay.specs.Places.{Place, Behind}
-use Rattle.replay.specs.Run.{Step, call, split, card_of, call_of, told, Store, State, result, after}
+use Rattle.replay.specs.Run.{Step, call, split, attempt, card_of, call_of, told, Store, State, fills, result, stands, after}
 
 -- What a call on a card of depth n showed is what the array, told of the call, holds: the bytes that a read gave, and every block on the
 -- card of a check.
@@ -35,42 +34,45 @@ abbrev pub ChecksTagged : State → Step → Type 0
 ChecksTagged s x = (u : ℕ) → Memᴰ u (checks s.store.anchor.depth (call_of x)) → Memᴰ (seen s.store x u) s.tagged
 
 module _ (F : List ℕ → List ℕ) where
-  -- What is asked of an accepted plan and its puts: every accepted put had the tag of its message, and the puts fill the plan.
-  pub record Completed (o : Planned) (puts : List PutStep) : Type 0 where
-    pub rights : EachPut (PutRight F o.messages) (begun o) puts
-    pub fills : full o.call.anchor.depth (after_all_puts (begun o) puts).plan ≡ true
-
+  -- What is asked of an accepted plan whose puts fill it: every accepted put had the tag of its message. A plan left unfinished is lost, and
+  -- nothing is asked of its puts.
   abbrev pub Complete : Store → Step → Type 0
   Complete s (call card c) = Unit {0}
   Complete s (split card i block ranges puts) =
       let o = planned F s.anchor card i block ranges in
-      o.call.answer ≡ Whole → Completed o puts
+      o.call.answer ≡ Whole → fills o puts ≡ true → EachPut (PutRight F o.messages) (begun o) puts
+  Complete s (attempt card i block ranges journal fate) = Unit {0}
 
   -- the card is the one as last left, at the plan and at each of its puts
   abbrev pub Untouched : Store → Step → Type 0
   Untouched s (call card c) = card ≡ s.left
   Untouched s (split card i block ranges puts) =
       (card ≡ s.left) × EachPut PutUntouched (begun (planned F s.anchor card i block ranges)) puts
+  Untouched s (attempt card i block ranges journal fate) = card ≡ s.left
 
   abbrev pub Accepted : Store → Step → Type 0
   Accepted s x = (result F s x).answer ≡ Whole
+
+  abbrev pub Stands : Store → Step → Type 0
+  Stands s x = stands F s x ≡ true
 
   -- if it is accepted, it agrees with the array
   abbrev pub AgreesHere : State → Step → Type 0
   AgreesHere s x =
       Accepted s.store x → Agrees s.store.anchor.depth s.store.array (card_of x) (result F s.store x).lent (told (call_of x))
 
-  -- it was accepted and checked a message that nothing before it tagged
+  -- it was accepted, and stands, and checked a message that nothing before it tagged
   pub record Forged (s : State) (x : Step) : Type 0 where
     pub accepted : Accepted s.store x
+    pub standing : Stands s.store x
     pub node : ℕ
     pub checked : Memᴰ node (checks s.store.anchor.depth (call_of x))
     pub right : F (seen s.store x node) ≡ tag s.store.anchor.depth (card_of x) node
     pub untagged : Memᴰ (seen s.store x node) s.tagged → ⊥
 
-  -- if it is an accepted write, it had an untouched card
+  -- if it is a write that stands, it had an untouched card
   abbrev pub WroteUntouched : State → Step → Type 0
-  WroteUntouched s x = Accepted s.store x → is_write (call_of x) ≡ true → Untouched s.store x
+  WroteUntouched s x = Stands s.store x → is_write (call_of x) ≡ true → Untouched s.store x
 
   -- it is an accepted wipe
   pub record AcceptedWipe (s : Store) (x : Step) : Type 0 where
@@ -86,7 +88,7 @@ module _ (F : List ℕ → List ℕ) (s₀ : State) where
   abbrev pub Everywhere : List Step → (State → Step → Type 0) → Type 0
   Everywhere xs P = (p : Place xs) → P (known p) p.item
 
-  -- every split write is completed
+  -- every split write that its puts fill had the tags of its messages
   abbrev pub AllComplete : List Step → Type 0
   AllComplete xs = Everywhere xs (λ s x. Complete F s.store x)
 
@@ -103,7 +105,7 @@ module _ (F : List ℕ → List ℕ) (s₀ : State) where
   abbrev pub Unwiped : {xs : List Step} → Place xs → Type 0
   Unwiped {xs} p = (q : Place xs) → Behind p q → AcceptedWipe F (known q).store q.item → ⊥
 
-  -- since the last accepted wipe, or the format if there is none, every accepted write had an untouched card
+  -- since the last accepted wipe, or the format if there is none, every write that stands had an untouched card
   abbrev pub Faithful : List Step → Type 0
   Faithful xs = (p : Place xs) → Unwiped p → WroteUntouched F (known p) p.item
 

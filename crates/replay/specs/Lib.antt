@@ -4,5 +4,6 @@ pub mod Places
 pub mod Run
 pub mod Claim
 pub mod OneWrite
+pub mod Nonces
 pub mod Tagged
 pub mod Ran

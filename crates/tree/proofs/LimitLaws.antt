@@ -106,6 +106,11 @@ depth-in n e =
       ltb-false 16 n d.1,
     )
 
+pub nonces-pass : (n t h : ℕ) → t % n ≡ 0 → h % n ≡ 0 → t ≤ h → (nonce_limit n t h).fails ≡ false
+nonces-pass n t h p q l =
+    or-not (not (eqb (t % n) 0)) (not (eqb (h % n) 0) || ltb h t) (equal_is (t % n) 0 p)
+    (or-not (not (eqb (h % n) 0)) (ltb h t) (equal_is (h % n) 0 q) (le-ltb h t l))
+
 -- What a row of tests answers
 
 -- one limit's test
@@ -184,17 +189,10 @@ module _ (a : Anchor) (card : List ℕ) where
         full = is-equal (length card) (card_length a.depth) r.0;
       }
 
-  nonces-pass : Sound a card → (nonce_limit a.depth a.root.0 a.reserved.0).fails ≡ false
-  nonces-pass s =
-      or-not (not (eqb (a.root.0 % a.depth) 0)) (not (eqb (a.reserved.0 % a.depth) 0) || ltb a.reserved.0 a.root.0)
-      (equal_is (a.root.0 % a.depth) 0 s.multiple)
-      (or-not (not (eqb (a.reserved.0 % a.depth) 0)) (ltb a.reserved.0 a.root.0) (equal_is (a.reserved.0 % a.depth) 0 s.reserved_multiple)
-      (le-ltb a.reserved.0 a.root.0 s.within))
-
   pass-first : Sound a card → first_failing (first_limits a (length card)) ≡ none
   pass-first s =
       pass _ _ (depth-passes a.depth s.deep s.shallow)
-      (pass _ _ (nonces-pass s)
+      (pass _ _ (nonces-pass a.depth a.root.0 a.reserved.0 s.multiple s.reserved_multiple s.within)
       (pass _ _ (equal_is (length card) (card_length a.depth) s.full) no-limits))
 
 -- and the call's own
