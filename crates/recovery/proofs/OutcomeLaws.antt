@@ -47,7 +47,7 @@ module _ (a : Anchor) (card : List ℕ) (i : ℕ) (block ranges journal : List �
   Told x k raised b left lent kept = Journals once each (journalled F a card i block ranges journal) x k raised b left lent kept
 
   -- a limit refuses it
-  pub write-limited : (r : Refusal) → tested (journalled_limits a (length card) i (length block) (length ranges) (length journal)) ≡ Err r
+  pub write-limited : (r : Refusal) → tested row ≡ Err r
       → Told (Refused r) 0 a a card ranges journal
   unfolding journalled journalled_answer
   write-limited r e =
@@ -63,7 +63,7 @@ module _ (a : Anchor) (card : List ℕ) (i : ℕ) (block ranges journal : List �
     pub journal-long : length journal ≡ journal_length a.depth
     pub limits-passed : first_failing (limits a card (write i block ranges)) ≡ none
 
-  pub passed : first_failing (journalled_limits a (length card) i (length block) (length ranges) (length journal)) ≡ none → Passed
+  pub passed : first_failing row ≡ none → Passed
   unfolding limits
   passed e =
       let both = passed-both (first_limits a (length card)) _ e in
@@ -75,13 +75,14 @@ module _ (a : Anchor) (card : List ℕ) (i : ℕ) (block ranges journal : List �
       }
 
   -- within them it answers what the write does
-  answers : first_failing (journalled_limits a (length card) i (length block) (length ranges) (length journal)) ≡ none
+  answers : first_failing row ≡ none
       → journalled_answer F a card i block ranges journal ≡ answer_of F a card c
   unfolding journalled_answer answer_of
   answers e = rw (e, (passed e).limits-passed) refl
 
-  settles : (x : Answer) → first_failing (journalled_limits a (length card) i (length block) (length ranges) (length journal)) ≡ none
-      → x ≡ (outcome F a card c).answer → journalled F a card i block ranges journal ≡ journalled_settled F x a card i block ranges journal
+  settles : (x : Answer) → first_failing row ≡ none
+      → x ≡ (outcome F a card c).answer
+      → journalled F a card i block ranges journal ≡ journalled_settled F x a card i block ranges journal
   unfolding journalled
   settles x e f =
       ap (λ (y : Answer). journalled_settled F y a card i block ranges journal) (answers e ∙ sym (outcome-answer F a card c) ∙ sym f)
@@ -93,8 +94,8 @@ module _ (a : Anchor) (card : List ℕ) (i : ℕ) (block ranges journal : List �
 
   -- the write within is refused
   pub write-refused : (x : Error) (k : ℕ) (left lent : List ℕ)
-      → first_failing (journalled_limits a (length card) i (length block) (length ranges) (length journal)) ≡ none
-      → Reports (subkeys_count a.key) (cmac_count a.key) (outcome (cmac_of a.key) a card (write i block ranges)) (refused_as x) k a left lent
+      → first_failing row ≡ none
+      → Reports once each (outcome F a card c) (refused_as x) k a left lent
       → Told (refused_as x) k a a left lent journal
   write-refused (WrongTag u) k left lent e told =
       rw (settles (Wrong u) e told.gives.answered)
@@ -105,9 +106,9 @@ module _ (a : Anchor) (card : List ℕ) (i : ℕ) (block ranges journal : List �
 
   -- it is whole
   pub write-whole : (k : ℕ) (raised b : Anchor) (left lent filled : List ℕ)
-      → first_failing (journalled_limits a (length card) i (length block) (length ranges) (length journal)) ≡ none
-      → Reports (subkeys_count a.key) (cmac_count a.key) (outcome (cmac_of a.key) a card (write i block ranges)) Whole k b left lent
-      → raised ≡ raise a → filled ≡ journal_of (cmac_of a.key) a.depth b.root.0 i left → Told Whole k raised b left lent filled
+      → first_failing row ≡ none
+      → Reports once each (outcome F a card c) Whole k b left lent
+      → raised ≡ raise a → filled ≡ journal_of F a.depth b.root.0 i left → Told Whole k raised b left lent filled
   write-whole k raised b left lent filled e told r f =
       let g = (reported Whole k b left lent told).gives in
       rw (settles Whole e told.gives.answered)
@@ -125,9 +126,6 @@ module _ (a : Anchor) (card journal : List ℕ) where
   abbrev G : List ℕ → List ℕ
   G = cmac_of a.key
 
-  abbrev found : Option ℕ
-  found = block_of a.depth (list_of a.depth journal)
-
   abbrev first_row : List Test
   first_row = first_limits a (length card) ++ (journal_limit a.depth (length journal) ∷ [])
 
@@ -135,7 +133,7 @@ module _ (a : Anchor) (card journal : List ℕ) where
   Brought x left = Gives (recovered G a card journal) x a left []
 
   -- a limit refuses it
-  pub recover-limited : (r : Refusal) → tested (first_limits a (length card) ++ (journal_limit a.depth (length journal) ∷ [])) ≡ Err r
+  pub recover-limited : (r : Refusal) → tested first_row ≡ Err r
       → Brought (Refused r) card
   unfolding recovered recovery_answer
   recover-limited r e =
@@ -147,7 +145,7 @@ module _ (a : Anchor) (card journal : List ℕ) where
     pub sound : Sound a card
     pub journal-long : length journal ≡ journal_length a.depth
 
-  pub measured : first_failing (first_limits a (length card) ++ (journal_limit a.depth (length journal) ∷ [])) ≡ none → Measured
+  pub measured : first_failing first_row ≡ none → Measured
   measured e =
       let both = passed-both (first_limits a (length card)) (journal_limit a.depth (length journal) ∷ []) e in
       record {
@@ -156,28 +154,28 @@ module _ (a : Anchor) (card journal : List ℕ) where
       }
 
   -- then the list decides
-  decides : first_failing (first_limits a (length card) ++ (journal_limit a.depth (length journal) ∷ [])) ≡ none
+  decides : first_failing first_row ≡ none
       → recovery_answer G a card journal ≡ verdict (first_failing (list_limit G a.depth a.root.0 journal ∷ [])) none
   unfolding recovery_answer
   decides e = ap (λ (r : Option Refusal). verdict r none) (skip_first first_row (list_limit G a.depth a.root.0 journal ∷ []) e)
 
   -- the journal is not to be applied
-  pub recover-other : first_failing (first_limits a (length card) ++ (journal_limit a.depth (length journal) ∷ [])) ≡ none
-      → applies (cmac_of a.key) a.depth a.root.0 journal ≡ false → Brought Whole card
+  pub recover-other : first_failing first_row ≡ none
+      → applies G a.depth a.root.0 journal ≡ false → Brought Whole card
   unfolding recovered mended scattered first_failing
   recover-other e f = rw (decides e, f) (record { answered = refl; anchored = refl; left = refl; filled = refl })
 
   -- it is, and has no write's ranges
-  pub recover-unlisted : first_failing (first_limits a (length card) ++ (journal_limit a.depth (length journal) ∷ [])) ≡ none
-      → applies (cmac_of a.key) a.depth a.root.0 journal ≡ true → block_of a.depth (list_of a.depth journal) ≡ none
+  pub recover-unlisted : first_failing first_row ≡ none
+      → applies G a.depth a.root.0 journal ≡ true → block_of a.depth (list_of a.depth journal) ≡ none
       → Brought (Refused Journal) card
   unfolding recovered first_failing
   recover-unlisted e f g = rw (decides e, f, g) (record { answered = refl; anchored = refl; left = refl; filled = refl })
 
   -- it is, and has those of a block's write
   pub recover-block : (i : ℕ) (left : List ℕ)
-      → first_failing (first_limits a (length card) ++ (journal_limit a.depth (length journal) ∷ [])) ≡ none
-      → applies (cmac_of a.key) a.depth a.root.0 journal ≡ true → block_of a.depth (list_of a.depth journal) ≡ some i
+      → first_failing first_row ≡ none
+      → applies G a.depth a.root.0 journal ≡ true → block_of a.depth (list_of a.depth journal) ≡ some i
       → left ≡ scattered (ranges_of a.depth i) (new_bytes a.depth journal) card → Brought Whole left
   unfolding recovered mended first_failing
   recover-block i left e f g h = rw (decides e, f, g) (record { answered = refl; anchored = refl; left = h; filled = refl })

@@ -17,8 +17,8 @@ ghost use Rattle.journal.specs.Recovery.{recovered};
 use cmac::counted::Counted;
 use tree::{Anchor, BlockIndex, Depth, Error, Refusal, limits};
 
-// What an accepted journalled write gives back: the anchor with the reserved nonce raised and the old root nonce, which is stored first, and
-// the final one.
+// What an accepted journalled write gives back: the anchor with the reserved nonce raised and the old root nonce, which is stored first,
+// and the final one.
 #[derive(Clone, Copy)]
 pub struct Written {
     pub raised: Anchor,

@@ -28,7 +28,8 @@ pub(crate) fn write(
     ranges: &mut [u8],
     journal: &mut [u8],
 ) -> Counted<Result<Written, Error>>
-    requires { first_failing (journalled_limits anchor (length card.old) index.0 (length block.now) (length ranges.old) (length journal.old)) ≡ none }
+    requires { first_failing
+        (journalled_limits anchor (length card.old) index.0 (length block.now) (length ranges.old) (length journal.old)) ≡ none }
     ensures { Journals (subkeys_count anchor.key) (cmac_count anchor.key)
         (journalled (cmac_of anchor.key) anchor card.old index.0 block.now ranges.old journal.old)
         (answer_in result.value) result.count
