@@ -10,8 +10,8 @@ pub returns : goal.returns
 returns c =
     let j = c.args.journal.now in
     let n = j.depth.levels in
-    let made = c.tag.ensures.value ∙ ap (λ (F : List ℕ → List ℕ). F c.message.result.now) (tags-of-context _ _ c.new-context.ensures) in
+    let made = tags-of-context _ _ c.new-context.ensures in
     c.equal.ensures
-    ∙ ap₂ same (made ∙ ap (cmac_of c.args.anchor.key) c.message.ensures) c.tag-2.ensures
+    ∙ ap₂ same (c.tag.ensures.value ∙ ap₂ (λ (F : List ℕ → List ℕ) (m : List ℕ). F m) made c.message.ensures) c.tag-2.ensures
     ∙ ap (λ (b : Bool). b && same (cmac_of c.args.anchor.key (message_of n j.bytes.now)) (tag_of n j.bytes.now))
     (sym c.if-not-is_for.false ∙ c.is_for.ensures)
