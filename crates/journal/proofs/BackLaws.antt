@@ -4,7 +4,7 @@ use mathlib.Core.Path.{◌≡◌, refl, sym, ap, ap₂, subst, ◌∙◌}
 use mathlib.Core.List.Memᴰ
 use mathlib.Core.List.{List, [], ◌∷◌, ◌++◌, append-nil, Memᴰ}
 use mathlib.Core.Logic.{◌⊎◌, inl, inr, ⊎_elim}
-use Prim.Native.Nat.{ℕ, ◌+◌, ◌-◌, ◌^◌, ◌<◌, ◌≤◌}
+use Prim.Native.Nat.{ℕ, ◌+◌, ◌*◌, ◌-◌, ◌^◌, ◌<◌, ◌≤◌}
 use native.Mathlib.Omega.{arith}
 use lib.ListN.{length, take, drop, length-take, length-drop}
 use lib.Seq.{sets, length-sets, take_at, drop_at, ext_get_or}
@@ -14,7 +14,7 @@ use Rattle.tree.specs.Layout.{card_length}
 use Rattle.tree.specs.Card.{written}
 use Rattle.tree.specs.Ranges.{Range, ranges_of}
 use Rattle.tree.proofs.ByteLaws.{at-sets-apart, at-sets-first, sets-there}
-use Rattle.tree.proofs.RangeLaws.{total, Outside, written-outside}
+use Rattle.tree.proofs.RangeLaws.{total, ranges-total, Outside, written-outside}
 use Rattle.tree.proofs.WriteLaws.{written-length}
 use Rattle.journal.specs.Journal.{gathered, scattered}
 use Rattle.journal.proofs.GatherLaws.{Fit, length-part, length-gathered, ranges-fit}
@@ -80,8 +80,7 @@ beside-put r rs x c d fits l b = record { long = length-sets c r.start x ∙ b.l
         (λ (high : r.start + r.count ≤ j). beside j out (inr high)) (below_or_not j (r.start + r.count)))
         (below_or_not j r.start)
 
--- The same bytes put into the same ranges of both: no difference is left. So bytes that are put again change nothing, whatever was done
--- to these ranges in between.
+-- the same bytes put into the same ranges of both: no difference is left
 pub scattered-same : (rs : List Range) (new c d : List ℕ) → Fit (length c) rs → total rs ≤ length new → Beside rs c d
     → scattered rs new c ≡ scattered rs new d
 unfolding scattered total
@@ -124,7 +123,21 @@ beside-trans rs c d e a b = record { long = a.long ∙ b.long; stands = λ j out
 pub beside-scattered : (rs : List Range) (new card : List ℕ) → Beside rs (scattered rs new card) card
 beside-scattered rs new card = record { long = length-scattered rs new card; stands = scattered-outside rs new card }
 
--- of a write's ranges
+-- bytes that are put again, whatever was done to these ranges in between
+pub scattered-again : (rs : List Range) (new c d : List ℕ) → Fit (length c) rs → total rs ≤ length new
+    → Beside rs d (scattered rs new c) → scattered rs new d ≡ scattered rs new c
+scattered-again rs new c d f l b =
+    let e : length d ≡ length c = b.long ∙ length-scattered rs new c in
+    scattered-same rs new d c (λ r m. omega (arith, f r m)) l (beside-trans rs d (scattered rs new c) c b (beside-scattered rs new c))
+
+-- The same of the ranges of a write
+
+pub ranges-again : (n i : ℕ) → i < 2 ^ n → 1 ≤ n → (new c d : List ℕ) → length new ≡ 40 * n + 56 → length c ≡ card_length n
+    → Beside (ranges_of n i) d (scattered (ranges_of n i) new c) → scattered (ranges_of n i) new d ≡ scattered (ranges_of n i) new c
+ranges-again n i inside deep new c d size full b =
+    scattered-again (ranges_of n i) new c d (λ r m. omega (arith, ranges-fit n i inside deep n (omega arith) r m))
+    (omega (arith, ranges-total n i inside deep)) b
+
 pub ranges-back : (n i : ℕ) → i < 2 ^ n → 1 ≤ n → (c d : List ℕ) → length d ≡ card_length n → Beside (ranges_of n i) c d
     → scattered (ranges_of n i) (gathered (ranges_of n i) d) c ≡ d
 ranges-back n i inside deep c d full b =
