@@ -23,6 +23,7 @@ use Rattle.journal.proofs.FillLaws.{message-size}
 use Rattle.journal.proofs.BlockLaws.{block-own}
 use Rattle.journal.proofs.BackLaws.{Beside, ranges-back}
 
+-- a part of a front
 part-of-take : (s : List ℕ) (n k m : ℕ) → k + m ≤ n → part (take n s) k m ≡ part s k m
 part-of-take s n k m h = part-part s 0 n k m h ∙ ap (λ (o : ℕ). part s o m) (omega arith)
 
@@ -33,6 +34,7 @@ pub record Applies (F : List ℕ → List ℕ) (n t : ℕ) (journal : List ℕ) 
   pub tag : F (message_of n journal) ≡ tag_of n journal
 
 module _ (F : List ℕ → List ℕ) (n t : ℕ) (journal : List ℕ) where
+  -- each of the two, where it applies
   pub applies-is : applies F n t journal ≡ true → Applies F n t journal
   applies-is e = go (same (take 8 journal) (be8 t)) refl (same (F (message_of n journal)) (tag_of n journal)) refl e
     where
@@ -42,6 +44,7 @@ module _ (F : List ℕ → List ℕ) (n t : ℕ) (journal : List ℕ) where
       go true p false q e = cc
       go false p b q e = cc
 
+  -- and the other way
   pub is-applies : Applies F n t journal → applies F n t journal ≡ true
   is-applies a =
       let p : same (take 8 journal) (be8 t) ≡ true = ap (λ (x : List ℕ). same x (be8 t)) a.root ∙ same_refl (be8 t) in
@@ -49,6 +52,7 @@ module _ (F : List ℕ → List ℕ) (n t : ℕ) (journal : List ℕ) where
       ap (λ (x : List ℕ). same x (tag_of n journal)) a.tag ∙ same_refl (tag_of n journal) in
       cc
 
+  -- and where they do not both hold
   pub applies-not : (Applies F n t journal → ⊥) → applies F n t journal ≡ false
   applies-not d = go (applies F n t journal) refl
     where
@@ -65,11 +69,13 @@ module _ (n t i : ℕ) (card : List ℕ) (inside : i < 2 ^ n) (deep : 1 ≤ n) (
   abbrev y : List ℕ
   y = gathered (ranges_of n i) card
 
+  -- what is behind the root nonce
   behind : drop 8 (journal_message n t i card) ≡ x ++ y
   unfolding journal_message
   behind = drop_at (be8 t) (x ++ y) 8 (length-be 8 t)
 
   module _ (journal : List ℕ) (has : message_of n journal ≡ journal_message n t i card) where
+    -- its parts
     pub root-told : take 8 journal ≡ be8 t
     unfolding journal_message
     root-told =
@@ -106,6 +112,7 @@ module _ (n t i : ℕ) (card : List ℕ) (inside : i < 2 ^ n) (deep : 1 ≤ n) (
   -- The journal of a write
 
   module _ (F : List ℕ → List ℕ) where
+    -- how long it is
     pub own-length : length (F (journal_message n t i card)) ≡ 16 → length (journal_of F n t i card) ≡ journal_length n
     own-length h =
         omega (
@@ -114,6 +121,7 @@ module _ (n t i : ℕ) (card : List ℕ) (inside : i < 2 ^ n) (deep : 1 ≤ n) (
           message-size n t i card inside deep full,
         )
 
+    -- its parts
     pub own-message : message_of n (journal_of F n t i card) ≡ journal_message n t i card
     own-message = filled-message (F (journal_message n t i card))
 
