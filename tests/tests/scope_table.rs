@@ -8,7 +8,7 @@ const BLOCK: [u8; 64] = [0x81; 64];
 
 /// A formatted card of that depth and its anchor.
 fn formatted(depth: u64, length: usize) -> (Vec<u8>, Vec<u8>) {
-    let (mut anchor, mut card) = (cards::anchor(&KEY, depth, 0), vec![0xa5; length]);
+    let (mut anchor, mut card) = (cards::anchor(&KEY, depth, 0, 0), vec![0xa5; length]);
     assert_eq!(pat::format(&mut anchor, &mut card), 0, "depth {depth}");
     (anchor, card)
 }
@@ -97,7 +97,7 @@ fn row_g() {
 fn row_h() {
     let (mut anchor, mut card) = formatted(2, 368);
     for (root, number) in [(u64::MAX - 3, 0), (u64::MAX - 1, 7)] {
-        cards::set_root(&mut anchor, root);
+        cards::set_nonces(&mut anchor, root);
         cards::restamp(&anchor, &mut card);
         assert_eq!(answers(&anchor, &card), [0, 0, number, number]);
     }
@@ -107,7 +107,7 @@ fn row_h() {
 #[test]
 fn row_i() {
     let (mut anchor, mut card) = formatted(2, 368);
-    cards::set_root(&mut anchor, 3);
+    cards::set_nonces(&mut anchor, 3);
     cards::restamp(&anchor, &mut card);
     assert_eq!(answers(&anchor, &card), [2; 4]);
 }

@@ -275,7 +275,7 @@ fn any_alignment() {
     let mut space = vec![0; 4_096];
     for shift in 0..64 {
         let (first, second) = space.split_at_mut(128);
-        let lent = &mut first[shift..][..32];
+        let lent = &mut first[shift..][..40];
         let moved = &mut second[3 * shift + 1..][..card.len()];
         lent.copy_from_slice(&list.anchor);
         moved.copy_from_slice(&list.card);
