@@ -37,7 +37,8 @@ fn singles_and_pairs() {
                 .collect();
             for (at, &one) in all.iter().enumerate() {
                 expect(&list, kind, &[one], &mut random, &mut tally);
-                for &other in all[at..].iter().filter(|other| other.0 != one.0) {
+                let others = all[at..].iter().filter(|other| other.0 != one.0);
+                for &other in others.filter(|&&other| limits::possible(depth, &[one, other])) {
                     expect(&list, kind, &[one, other], &mut random, &mut tally);
                 }
             }

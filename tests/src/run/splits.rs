@@ -38,7 +38,7 @@ impl Run {
         if missing > 0 {
             self.splits.unfinished += 1;
             if self.list.has(&split.asked) {
-                self.list.keep(between, &mut self.random);
+                self.list.keep(split.left.card, &mut self.random);
                 self.list.lose(split.left.anchor);
             }
             return;
