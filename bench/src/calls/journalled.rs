@@ -250,7 +250,7 @@ pub fn print(found: &[Found], pace: f64) {
         let mut cells = one.times.map(|time| nanoseconds(time * pace)).to_vec();
         cells.insert(3, format!("{:.3}", one.ratio()));
         cells.insert(0, one.depth.to_string());
-        print_line(cells.into_iter());
+        print_line(cells);
     }
     println!();
     print_target(found);
