@@ -130,7 +130,7 @@ pub fn compare(one: &dyn Calls, other: &dyn Calls) -> Result<[usize; 9], String>
 
 #[cfg(test)]
 mod tests {
-    use super::super::archive::{present, Archive};
+    use super::super::archive::{before, present, Archive};
     use super::*;
     use crate::calls::card::Reference;
     use std::cell::Cell;
@@ -139,6 +139,18 @@ mod tests {
     #[test]
     fn all_answers() {
         let answers = compare(&Cell::new(present()), &Reference).expect("the same");
+        assert!(answers.iter().all(|&count| count >= 24), "{answers:?}");
+    }
+
+    /// So is the older one, where the build has one, whichever anchor it takes.
+    #[test]
+    fn the_older_one() {
+        let Some(before) = before() else {
+            println!("skipped: no older archive");
+            return;
+        };
+        println!("an anchor of {} bytes", before.anchor);
+        let answers = compare(&Cell::new(before), &Reference).expect("the same");
         assert!(answers.iter().all(|&count| count >= 24), "{answers:?}");
     }
 
