@@ -221,7 +221,10 @@ fn print_target(found: &[Found]) {
         false => "not reached",
     };
     println!(
-        "- journalled write at most {TARGET:.2} of a write and a CMAC of 56n + 64 bytes: {verdict} ({}; of depths 1 to {DEEPEST} the most {:.3}, at {})\n",
+        "- journalled write at most {TARGET:.2} of a write and a CMAC of 56n + 64 bytes: {verdict}"
+    );
+    println!(
+        "  ({}; of depths 1 to {DEEPEST} the most {:.3}, at {})\n",
         shown.join(", "),
         worst.ratio(),
         worst.depth

@@ -24,32 +24,19 @@ pub const ALTERED: [Test; 14] = [
     Test::AnchorLength,
 ];
 
+/// Lengths that are not an anchor's.
+const ANCHORS: [usize; 6] = [0, 32, 39, 41, 48, 80];
+
 /// Makes one of these tests fail.
 pub fn fail(call: &mut Call, test: Test, way: usize) {
     let depth = cards::depth(&call.anchor);
     match test {
-        Test::AnchorLength => call.anchor.resize([0, 32, 39, 41, 48, 80][way], 0x1d),
+        Test::AnchorLength => call.anchor.resize(ANCHORS[way], 0x1d),
+        Test::RaisedLength => call.raised.resize(ANCHORS[way], 0x1d),
         Test::PlanLength => call.plan.resize([0, 8, 16, 23, 25, 48][way], 0x1d),
-        Test::MessagesLength => {
-            // Just what the messages take is too short, but for depth 16.
-            let used = plans::messages_bytes(depth);
-            let lengths = [0, used, 640, 655, 657, 1_312];
-            call.messages.resize(lengths[way], 0x1d);
-        }
+        Test::MessagesLength => call.messages.resize(messages(depth, way), 0x1d),
         Test::TagLength => call.tag.resize([0, 8, 15, 17, 24, 32][way], 0x1d),
-        Test::RaisedLength => call.raised.resize([0, 32, 39, 41, 48, 80][way], 0x1d),
-        Test::JournalLength => {
-            let wanted = journals::bytes(depth);
-            let lengths = [
-                0,
-                wanted - 1,
-                wanted + 1,
-                wanted - 56,
-                wanted + 56,
-                2 * wanted,
-            ];
-            call.journal.resize(lengths[way], 0x1d);
-        }
+        Test::JournalLength => call.journal.resize(journal(depth, way), 0x1d),
         Test::Depth => {
             let wrong = [0, 17, 32, 256 + depth, (1 << 32) + depth, !0];
             cards::set_depth(&mut call.anchor, wrong[way]);
@@ -92,6 +79,24 @@ pub fn spoil_card(call: &mut Call, way: usize, random: &mut Random) -> u64 {
     };
     call.card[part.start + random.below(part.len())] ^= 1 << random.below(8);
     node.0
+}
+
+/// A length that is not the messages': just what they take is too short, but for depth 16.
+fn messages(depth: u64, way: usize) -> usize {
+    [0, plans::messages_bytes(depth), 640, 655, 657, 1_312][way]
+}
+
+/// A length that is not the journal's.
+fn journal(depth: u64, way: usize) -> usize {
+    let wanted = journals::bytes(depth);
+    [
+        0,
+        wanted - 1,
+        wanted + 1,
+        wanted - 56,
+        wanted + 56,
+        2 * wanted,
+    ][way]
 }
 
 /// A length that is not the card's.

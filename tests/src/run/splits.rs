@@ -5,8 +5,8 @@ use crate::call::{Answer, Kind};
 use crate::split::Split;
 use crate::{plans, spoil};
 
-/// What became of the plans that were accepted: a write of the list, with the card untouched at each step or not; left
-/// unfinished, a lost attempt; under another anchor, or on a card from which the list does not go on. And how many puts between were refused.
+/// What became of the plans that were accepted: a write of the list, with the card untouched at each step or not; left unfinished, a
+/// lost attempt; under another anchor, or on a card from which the list does not go on. And how many puts between were refused.
 #[derive(Default, Debug)]
 pub struct Splits {
     pub untouched: u64,
@@ -17,9 +17,9 @@ pub struct Splits {
 }
 
 impl Run {
-    /// Puts the tags of a plan in a random order. In half of the cases somebody alters the card between the puts; in one of
-    /// eight some are missing at the end, and the list goes on with the card of before and the raised anchor. The list goes on from a card that was
-    /// touched in one of three cases, and keeps a card of between two puts for later.
+    /// Puts the tags of a plan in a random order. In half of the cases somebody alters the card between the puts; in one of eight
+    /// some are missing at the end, and the list goes on with the card of before and the raised anchor. It goes on from a card that
+    /// was touched in one of three cases, and keeps a card of between two puts for later.
     pub(super) fn puts(&mut self, mut split: Split) {
         let tags = split.waiting.len();
         let hostile = self.random.below(2) == 0;

@@ -45,8 +45,8 @@ pub fn depth(call: &mut Call, random: &mut Random) {
     cards::set_depth(&mut call.anchor, pick(random, &beyond));
 }
 
-/// An anchor with another key, root nonce or reserved nonce; the card is made right for it in half of the cases. Under the list's own anchor
-/// that would be a forgery.
+/// An anchor with another key, root nonce or reserved nonce; the card is made right for it in half of the cases. Under the list's
+/// own anchor that would be a forgery.
 pub fn numbers(call: &mut Call, list: &List, random: &mut Random) {
     if call.anchor.len() != 40 {
         return;
@@ -69,18 +69,8 @@ pub fn numbers(call: &mut Call, list: &List, random: &mut Random) {
     ];
     let root = pick(random, &choices);
     cards::set_root(&mut call.anchor, root);
-    let reserved = [
-        root,
-        root,
-        root,
-        root.wrapping_add(depth),
-        root.wrapping_sub(depth),
-        root.wrapping_add(1),
-        cards::reserved(&call.anchor),
-        last,
-        pick(random, &choices),
-    ];
-    cards::set_reserved(&mut call.anchor, pick(random, &reserved));
+    let reserved = reserved_with(&call.anchor, root, pick(random, &choices), random);
+    cards::set_reserved(&mut call.anchor, reserved);
     if random.below(8) == 0 {
         call.anchor[random.below(16)] ^= 1 << random.below(8);
     }
@@ -88,4 +78,21 @@ pub fn numbers(call: &mut Call, list: &List, random: &mut Random) {
     if fits && call.anchor != list.anchor && random.below(2) == 0 {
         cards::restamp(&call.anchor, &mut call.card);
     }
+}
+
+/// A reserved nonce beside that root nonce: most often the same, or that many writes on; or another one.
+fn reserved_with(anchor: &[u8], root: u64, any: u64, random: &mut Random) -> u64 {
+    let depth = cards::depth(anchor);
+    let choices = [
+        root,
+        root,
+        root,
+        root.wrapping_add(depth),
+        root.wrapping_sub(depth),
+        root.wrapping_add(1),
+        cards::reserved(anchor),
+        cards::last_root(depth.max(1)),
+        any,
+    ];
+    pick(random, &choices)
 }
