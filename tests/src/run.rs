@@ -90,7 +90,9 @@ impl Run {
         if !answer.accepted() {
             return;
         }
-        if call.kind == Kind::Plan {
+        if call.kind == Kind::Recover {
+            self.attempts.note(call.card != after.card);
+        } else if call.kind == Kind::Plan {
             self.puts(Split::new(call, after));
         } else if self.list.has(&call) && call.kind.moves() {
             let goes_on = call.card == self.list.card || self.random.below(6) == 0;

@@ -6,19 +6,26 @@ use crate::journals;
 use crate::random::Random;
 
 /// What became of the journalled writes that were accepted: done; lost in the journal or behind it; or cut in the ranges and
-/// recovered.
+/// recovered. And how many other recoveries changed a byte of their card, and none.
 #[derive(Default, Debug)]
 pub struct Attempts {
     done: u64,
     lost: u64,
     recovered: u64,
+    others: [u64; 2],
 }
 
 impl Attempts {
-    /// Stops the test unless each end came up that often.
+    /// Notes another recovery that was accepted.
+    pub fn note(&mut self, changed: bool) {
+        self.others[usize::from(!changed)] += 1;
+    }
+
+    /// Stops the test unless each of them came up that often.
     pub fn expect_each(&self, least: u64) {
         let ends = [self.done, self.lost, self.recovered];
-        assert!(ends.iter().all(|&count| count >= least), "{self:?}");
+        let all = ends.iter().chain(&self.others);
+        assert!(all.min() >= Some(&least), "{self:?}");
     }
 }
 
