@@ -62,7 +62,9 @@ fn files_with(words: &str) -> Vec<String> {
 fn the_cipher_has_one_caller() {
     assert_eq!(files_with(".encrypt("), ["cmac/lib.rt"]);
     let lines = lines();
-    let at = lines.iter().position(|(_, line)| line.contains(".encrypt("));
+    let at = lines
+        .iter()
+        .position(|(_, line)| line.contains(".encrypt("));
     let behind = &lines[at.expect("the call") + 1].1;
     assert_eq!(behind, "count += 1;");
 }
@@ -91,14 +93,12 @@ fn each_call_makes_one_context() {
     assert_eq!(files_with("within::plan("), ["split/lib.rt"]);
     assert_eq!(files_with("new.lay("), ["split/within.rt"]);
     // pat's is host_split::plan.
-    assert_eq!(files_with("split::plan("), ["host_split/lib.rt", "pat/lib.rt"]);
+    assert_eq!(
+        files_with("split::plan("),
+        ["host_split/lib.rt", "pat/lib.rt"]
+    );
     assert_eq!(files_with("host_split::plan("), ["pat/lib.rt"]);
-    for part in [
-        "walk::path(",
-        "walk::all(",
-        "new.stamp(",
-        "stamp::blank(",
-    ] {
+    for part in ["walk::path(", "walk::all(", "new.stamp(", "stamp::blank("] {
         assert_eq!(files_with(part), ["work/lib.rt"], "{part}");
     }
     let pairs = files_with("walk::pairs(");
