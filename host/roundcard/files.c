@@ -154,13 +154,22 @@ bool directory_is_writable(const char *path) {
     return writable;
 }
 
+static char *joined(const char *path, const char *suffix) {
+    size_t length = strlen(path) + strlen(suffix) + 1;
+    char *name = malloc(length);
+    if (name != NULL)
+        snprintf(name, length, "%s%s", path, suffix);
+    return name;
+}
+
+char *name_of_replacement(const char *path) {
+    return joined(path, beside);
+}
+
 // The name beside the path that the bytes go to first.
 static bool name_beside(struct replacement *new, const char *suffix) {
-    size_t length = strlen(new->path) + strlen(suffix) + 1;
-    if ((new->written = malloc(length)) == NULL)
-        return false;
-    snprintf(new->written, length, "%s%s", new->path, suffix);
-    return true;
+    new->written = joined(new->path, suffix);
+    return new->written != NULL;
 }
 
 static bool keep_owner(const struct replacement *new, const struct stat *old) {

@@ -50,6 +50,10 @@ bool replacement_open(struct replacement *new, const char *path, mode_t mode, bo
 // For a file that needs no lock, with what is there already or NULL: its owner and mode are kept.
 bool replacement_open_unlocked(struct replacement *new, const char *path, const struct stat *old);
 
+// What the new file of that name is called until it takes its place, in memory that the caller
+// frees.
+char *name_of_replacement(const char *path);
+
 // For a file that is made only under the lock of another, new or in the place of one that is there:
 // with that status's owner, where the system lets it, and its mode without what makes a program.
 bool replacement_open_like(struct replacement *new, const char *path, const struct stat *like);

@@ -108,10 +108,18 @@ bool journal_would_change(const struct anchor *anchor, struct card *card) {
     return would;
 }
 
+static bool unlinked(const char *path) {
+    return unlink(path) == 0 || errno == ENOENT;
+}
+
 void journal_remove(const struct request *request, const char *path) {
-    if (unlink(path) == 0)
+    struct stat status;
+    char *beside = name_of_replacement(path);
+    bool there = lstat(path, &status) == 0 || (beside != NULL && lstat(beside, &status) == 0);
+    if (!unlinked(path) || beside == NULL || !unlinked(beside))
+        notice(request, "warning: cannot remove the journal file %s, which has a round: %s", path,
+               strerror(errno));
+    else if (there)
         sync_directory_of(path);
-    else if (errno != ENOENT)
-        notice(request, "warning: cannot remove the journal file %s, which has the last round: %s",
-               path, strerror(errno));
+    free(beside);
 }

@@ -43,8 +43,8 @@ enum standing journal_standing(const struct anchor *anchor, const struct card *c
 // reports nothing: where it cannot see that, it is not so.
 bool journal_would_change(const struct anchor *anchor, struct card *card);
 
-// Removes the file, for a card on which nothing is to be recovered any more, and warns where that
-// fails: the journal has the last round.
+// Removes the file, for a card on which nothing is to be recovered any more, and what a cut left
+// beside it. Warns where that fails: a journal has a round.
 void journal_remove(const struct request *request, const char *path);
 
 #endif

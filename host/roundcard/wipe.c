@@ -165,9 +165,8 @@ static const char help[] =
     "is out.\n"
     "\n"
     "Refused 5: the anchor file has not 40 bytes. 1: depth. 2: T or H. 3: card length.\n"
-    "7: the nonces are used up. Status 77: the answer is not yes, or the anchor file changed "
-    "before\n"
-    "the answer.\n";
+    "7: the nonces are used up. Status 77: the answer is not yes, or the anchor file changed\n"
+    "before the answer.\n";
 
 const struct command wipe_command = {
     .name = "wipe",

@@ -203,13 +203,23 @@ class FaultCase(ToolCase):
         environment = dict(os.environ, LD_PRELOAD=str(FAULTS), FAULT_LOG=str(self.room / "log"), FAULT=fault)
         return self.tool(*words, env=environment, **options)
 
+    def steps(self, *words):
+        """A run's calls that change files, in which it succeeds."""
+        log = self.room / "log"
+        log.unlink(missing_ok=True)
+        self.assertEqual(self.run_with("", *words).returncode, 0)
+        steps = [line for line in log.read_text().splitlines() if not line.startswith("wipe")]
+        log.unlink()
+        return steps
+
     def both(self):
         return self.card.read_bytes(), self.anchor.read_bytes()
 
     def start_again(self):
         self.card.write_bytes(self.old[0])
         self.anchor.write_bytes(self.old[1])
-        self.journal.unlink(missing_ok=True)
+        for path in (self.journal, *self.room.glob("*.roundcard-new")):
+            path.unlink(missing_ok=True)
 
     def failing(self, fault, number, *words):
         done = self.run_with(f"{fault}:{number}", *words)
