@@ -141,6 +141,7 @@ host-calls: host-calls-plain host-calls-sanitized host-calls-valgrind
 host-calls-plain: $(HOST_OUT)/calls
 	python3 -B host/tests/known.py | cmp - host/tests/calls/known.h
 	python3 -B host/tests/known_plans.py | cmp - host/tests/calls/known_plans.h
+	python3 -B host/tests/known_journals.py | cmp - host/tests/calls/known_journals.h
 	$(HOST_OUT)/calls
 
 host-calls-sanitized: $(HOST_OUT)/sanitized/calls

@@ -20,6 +20,9 @@ static const struct {
     {"split writes against writes", test_plans},
     {"orders of tags, wrong and late tags, plans given up", test_orders},
     {"puts under plans of any bytes", test_puts},
+    {"known answers of journalled writes, and journals of no write", test_known_journals},
+    {"journalled writes against writes, and journals that are passed over", test_journals},
+    {"cuts at every byte of the four steps, and recoveries", test_cuts},
 };
 
 int main(void) {
