@@ -17,6 +17,7 @@ from pathlib import Path
 HERE = Path(__file__).resolve().parent
 sys.path.insert(0, str(HERE.parent))
 
+from cipher import Cmac  # noqa: E402, F401
 from model import Card, aes_calls, entry, packed  # noqa: E402, F401
 
 TOOL = Path(os.environ["ROUNDCARD"]).resolve()

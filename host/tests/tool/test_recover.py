@@ -5,8 +5,7 @@ import shutil
 import stat
 import unittest
 
-from cipher import Cmac
-from support import FILE, KEY, Card, ToolCase, block, packed
+from support import FILE, KEY, Card, Cmac, ToolCase, block, packed
 
 
 class Recover(ToolCase):
@@ -51,6 +50,9 @@ class Recover(ToolCase):
         self.nothing("in place", "all bytes of the last write are in their places")
         report = self.nothing("lost write", lost, card=self.old, anchor=self.raised)
         self.assertEqual((report["root_nonce"], report["reserved_nonce"]), (6, 9))
+        later = "; an attempt after the last change was lost: write its block again"
+        raised = self.model.anchor()[:32] + (12).to_bytes(8, "big")
+        self.nothing("in place", "all bytes of the last write are in their places" + later, anchor=raised)
         self.model.write(1, block("later"))
         self.nothing("earlier write", "the journal is of an earlier write than the anchor's last change", card=bytes(self.model.bytes))
         self.put(self.model)
