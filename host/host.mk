@@ -96,8 +96,8 @@ $(HOST_OUT)/stack: host/tests/stack.c host/pat.h host/host.mk $(PAT_ARCHIVE)
 	@mkdir -p $(@D)
 	$(TEST_BUILD) $< $(PAT_ARCHIVE) -Wl,-z,now -o $@
 
-demo: $(HOST_OUT)/roundcard
-	host/demo.sh $<
+demo: $(HOST_OUT)/roundcard $(HOST_OUT)/faults.so
+	host/demo.sh $^
 
 install: $(HOST_OUT)/roundcard
 	install -d $(DESTDIR)$(BINDIR) $(DESTDIR)$(LIBDIR)/pkgconfig $(DESTDIR)$(INCLUDEDIR)

@@ -86,9 +86,17 @@ static bool changes(const struct anchor *anchor, size_t length, const struct jou
     return false;
 }
 
+// A journal of zeros is none.
+static bool is_none(const struct journal *journal) {
+    for (size_t k = 0; k < journal->length; k++)
+        if (journal->bytes[k] != 0)
+            return false;
+    return true;
+}
+
 enum standing journal_standing(const struct anchor *anchor, const struct card *card,
                                const struct journal *journal) {
-    if (!journal->there)
+    if (is_none(journal))
         return NO_JOURNAL;
     if (journal->pending)
         return PUT_IN_PLACE;

@@ -42,7 +42,9 @@ static int report(const struct request *request, const struct anchor *anchor,
         printf("recovered: %s; %zu ranges of the card changed\n", standings[standing].sentence,
                PAT_RANGES(depth));
     } else {
-        printf("nothing to do: %s\n", standings[standing].sentence);
+        bool lost = standing != LOST_WRITE && anchor_reserved(anchor) != anchor_root(anchor);
+        printf("nothing to do: %s%s\n", standings[standing].sentence,
+               lost ? "; an attempt after the last change was lost: write its block again" : "");
     }
     return changed ? finish_after(request, "the card is recovered") : finish_output(request);
 }

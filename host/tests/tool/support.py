@@ -17,7 +17,8 @@ from pathlib import Path
 HERE = Path(__file__).resolve().parent
 sys.path.insert(0, str(HERE.parent))
 
-from model import Card, aes_calls, entry  # noqa: E402, F401
+from cipher import Cmac  # noqa: E402, F401
+from model import Card, aes_calls, entry, packed  # noqa: E402, F401
 
 TOOL = Path(os.environ["ROUNDCARD"]).resolve()
 FAULTS = os.environ.get("FAULTS") and Path(os.environ["FAULTS"]).resolve()
