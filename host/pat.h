@@ -433,10 +433,10 @@ uint64_t pat_wipe(uint8_t *anchor, size_t anchor_len, uint8_t *card, size_t card
 // A plan may be left unfinished. It is a lost attempt then, and is thrown away with its tags, those
 // too that are still to come. The host goes on with the raised anchor, never with one of before,
 // and with the card's bytes of before, which it has kept or loads anew. The next plan, write or
-// wipe takes nonces of its own, so that no tag of the plan can take another's place, whoever has
-// seen it. But a put under the old plan would set T back after a later write, and a late tag that
-// is put under the next plan, which may await the same nodes, takes the place of that plan's own.
-// So the host must know of each tag which plan it was made for.
+// wipe takes nonces of its own: no tag of the plan that was left is right on a later card, whoever
+// has seen it. But a put under the old plan would set T back after a later write, and a late tag
+// that is put under the next plan, which may await the same nodes, takes the place of that plan's
+// own. So the host must know of each tag which plan it was made for.
 //
 // A refused pat_plan leaves anchor, plan and messages as they were. Put no tag after it: whatever
 // bytes the plan has, those of an earlier one or zeros, they stand for some plan, which may await
@@ -459,11 +459,11 @@ uint64_t pat_plan(uint8_t *anchor, size_t anchor_len, uint8_t *card, size_t card
 // for its node is refused with 9. A host that doubts its engines keeps the raised anchor and the
 // card of before. After the last put, and before it stores anything, it makes a pat_read of the
 // block and, on copies of anchor and card, a pat_plan of the same block, which it throws away with
-// its messages unsent, and with the copies: together these check every tag that was put, with 6 *
-// depth + 6 AES calls. If one is refused with 8 it goes back to what it kept, and gives the plan
-// up. If the plan is refused with 7, since the write took the last nonces, it has checked nothing,
-// and a pat_check does. That costs more, and is refused for damage elsewhere too, which neither
-// write nor plan looks at.
+// its messages unsent, and with the copies: together these check every tag that was put, with
+// 6 * depth + 6 AES calls. If one is refused with 8 it goes back to what it kept, and leaves the
+// plan. If the plan is refused with 7, since the write took the last nonces, it has checked
+// nothing, and a pat_check does. That costs more, and is refused for damage elsewhere too, which
+// neither write nor plan looks at.
 //
 // It has an answer for a plan of any bytes and looks at no byte of the card. T becomes whatever
 // such a plan says.

@@ -146,14 +146,6 @@ bool sync_directory_of(const char *path) {
     return synced;
 }
 
-bool directory_is_writable(const char *path) {
-    char *directory = directory_of(path);
-    bool writable =
-        directory != NULL && faccessat(AT_FDCWD, directory, W_OK | X_OK, AT_EACCESS) == 0;
-    free(directory);
-    return writable;
-}
-
 static char *joined(const char *path, const char *suffix) {
     size_t length = strlen(path) + strlen(suffix) + 1;
     char *name = malloc(length);
@@ -164,6 +156,16 @@ static char *joined(const char *path, const char *suffix) {
 
 char *name_of_replacement(const char *path) {
     return joined(path, beside);
+}
+
+bool can_be_replaced(const char *path) {
+    struct stat status;
+    char *new = name_of_replacement(path), *directory = directory_of(path);
+    bool can = new != NULL &&directory != NULL && (lstat(new, &status) == 0 || errno == ENOENT) &&
+               faccessat(AT_FDCWD, directory, W_OK | X_OK, AT_EACCESS) == 0;
+    free(new);
+    free(directory);
+    return can;
 }
 
 // The name beside the path that the bytes go to first.

@@ -30,8 +30,9 @@ bool write_at(int file, const uint8_t *bytes, size_t length, off_t place);
 // Makes names in the directory of that file stand. False with errno.
 bool sync_directory_of(const char *path);
 
-// Whether files can be made beside that one. False with errno.
-bool directory_is_writable(const char *path);
+// Whether a new file can be made beside that one to take its place, as far as can be seen
+// beforehand. False with errno.
+bool can_be_replaced(const char *path);
 
 bool same_file(const struct stat *one, const struct stat *other);
 

@@ -130,7 +130,7 @@ int store_write(const struct request *request, const struct outgoing *out,
     struct replacement new[2] = {{.file = -1, .directory = -1}, {.file = -1, .directory = -1}};
     sigset_t before;
     hold_signals(&before);
-    int status = directory_is_writable(out->journal->path)
+    int status = can_be_replaced(out->journal->path)
                      ? begin(request, out, end_of(steps->journal, anchor_depth(out->anchor)))
                      : system_failure(request,
                                       "cannot make a journal file beside the card image %s; "

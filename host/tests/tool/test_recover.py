@@ -205,6 +205,21 @@ class Recover(ToolCase):
         self.accepted("write", "--text", "x", self.anchor, self.card, "1")
         self.assertEqual((self.journal.stat().st_uid, self.journal.stat().st_gid), (1234, 1235))
 
+    def test_names_that_are_too_long_for_a_journal(self):
+        for length in (220, 230, 250):
+            card = self.room / ("c" * length)
+            card.write_bytes(self.old)
+            anchor = Card(KEY, 3)
+            anchor.write(5, block("the old round"))
+            anchor.write(2, block("another"))
+            self.anchor.write_bytes(anchor.anchor())
+            words = "write", "--text", "x", self.anchor, card, "1"
+            if length == 220:
+                self.accepted(*words)
+            else:
+                self.fails(FILE, *words, says=["journal file", "File name too long"])
+            self.accepted("check", self.anchor, card)
+
     def test_folders_that_cannot_be_written(self):
         chip = self.room / "chip"
         chip.mkdir()

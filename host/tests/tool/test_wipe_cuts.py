@@ -6,7 +6,7 @@ import signal
 import stat
 import unittest
 
-from support import CUT, FILE, KEY, FaultCase, wiped
+from support import CUT, FILE, KEY, FaultCase, block, wiped
 
 BESIDE = "box.anchor.roundcard-new"
 
@@ -113,6 +113,31 @@ class WipeCuts(FaultCase):
                 self.assertEqual(self.run_with(second, *self.words).returncode, CUT)
                 self.expect_mended()
                 self.start_again()
+
+    def test_cut_of_a_wipe_behind_a_write_that_was_cut(self):
+        """Until the wipe's anchor stands the write is not lost, and its journal plays no part from then on."""
+        self.model = self.made(3, [(k, f"round {k}") for k in range(8)])
+        self.model.write(5, block("the last"))
+        written = self.model.anchor(), bytes(self.model.bytes)
+        done = 0
+        for k in range(1, 20):
+            self.start_again()
+            self.run_with("pwrite:3:cut", "write", "--text", "the last", self.anchor, self.card, "5")
+            if self.run_with(f"any:{k}:cut", *self.words).returncode == 0:
+                break
+            before = self.card.read_bytes()
+            report = self.report("recover", self.anchor, self.card)
+            if self.anchor.read_bytes() == written[0]:
+                self.assertIn(report["journal"], ("put in place", "in place"))
+                self.assertEqual(self.card.read_bytes(), written[1])
+                self.accepted("check", self.anchor, self.card)
+            else:
+                self.assertIn(report["journal"], ("earlier write", "none"))
+                self.assertEqual(self.card.read_bytes(), before)
+                done += 1
+            self.expect_mended()
+        self.assertGreaterEqual(done, 4)
+        self.assertEqual(k, 19)
 
     def test_cut_of_a_write_is_mended_by_a_wipe(self):
         words = "write", "--text", "x", self.anchor, self.card, "5"

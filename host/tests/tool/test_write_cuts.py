@@ -2,10 +2,12 @@
 
 import errno
 import os
+import signal
 import stat
+import subprocess
 import unittest
 
-from support import CUT, FILE, FaultCase, block
+from support import CUT, FAULTS, FILE, TOOL, FaultCase, block
 
 
 class WriteCuts(FaultCase):
@@ -176,6 +178,27 @@ class WriteCuts(FaultCase):
         message = self.failing("write:1", errno.EIO, "write", "--text", "x", self.anchor, self.card, "4")
         self.assertIn("cannot replace the anchor file", message)
         self.assertEqual(self.both(), self.new)
+
+    def stopped(self, fault):
+        """A write that stands still at a call, and goes on when it is told."""
+        environment = dict(os.environ, LD_PRELOAD=str(FAULTS), FAULT=f"{fault}:signal{int(signal.SIGSTOP)}")
+        process = subprocess.Popen([TOOL, *self.words], env=environment, stdout=subprocess.DEVNULL)
+        self.addCleanup(process.kill)
+        _, status = os.waitpid(process.pid, os.WUNTRACED)
+        self.assertTrue(os.WIFSTOPPED(status))
+        return process
+
+    def test_nobody_gets_in_between_the_steps(self):
+        for k in range(1, len(self.expected_steps()) + 1):
+            self.start_again()
+            process = self.stopped(f"any:{k}")
+            for words in (("read", self.anchor, self.card, "5"), ("write", "--text", "x", self.anchor, self.card, "5"), ("recover", self.anchor, self.card)):
+                done = self.tool(*words, "--wait=0")
+                self.assertEqual(done.returncode, FILE, (k, done.stdout))
+                self.assertIn(b"another process has the lock", done.stderr)
+            process.send_signal(signal.SIGCONT)
+            self.assertEqual(process.wait(60), 0)
+            self.assertEqual(self.both(), self.new)
 
     def test_failures_before_anything(self):
         self.start_again()
