@@ -41,7 +41,8 @@ module _ (a : Anchor) (s : List ℕ) (stands : Stands s a) (t : AttemptCalled) (
 
   pub attempt-told : HostsJournalled (hosted_journalled s t.room (journalled_on a t)) t.code t.anchor t.raised t.left t.lent t.filled
   attempt-told =
-      subst (λ (c : Anchor). HostsJournalled (hosted_journalled s t.room (journalled_on c t)) t.code t.anchor t.raised t.left t.lent t.filled)
+      subst
+      (λ (c : Anchor). HostsJournalled (hosted_journalled s t.room (journalled_on c t)) t.code t.anchor t.raised t.left t.lent t.filled)
       stands.is
       (write-told s t.room t.card t.index t.block t.ranges t.journal t.code t.anchor t.raised t.left t.lent t.filled
       (stands.long, m.raised-room) m.says)

@@ -63,7 +63,8 @@ module _ (key : List ℕ) where
     told : Told (result (cmac_of key) z.store (step_of r)) (back_of r)
     told = told_here key r z f.held f.knows f.handed f.met
 
-    pub stands-so : (Run.stands (cmac_of key) z.store (step_of r) ≡ stands r) × (Run.reserves (cmac_of key) z.store (step_of r) ≡ reserves r)
+    pub stands-so : (Run.stands (cmac_of key) z.store (step_of r) ≡ stands r)
+        × (Run.reserves (cmac_of key) z.store (step_of r) ≡ reserves r)
     stands-so = stands-here key r z f.held f.knows f.handed f.met
 
     next-left : (next (cmac_of key) z (step_of r)).store.left ≡ cond (stands r && renews (called r)) (back_of r).card z.store.left

@@ -1,6 +1,6 @@
 -- Tags put in turn, in any order: the split write is filled and untouched, and ends as the plain write does.
 use mathlib.Core.Path.{◌≡◌, refl, sym, ap, ap₂, subst, ◌∙◌}
-use mathlib.Core.Bool.{Bool, true, cond, ◌&&◌, ◌||◌}
+use mathlib.Core.Bool.{Bool, true, false, cond, ◌&&◌, ◌||◌}
 use mathlib.Core.List.Memᴰ
 use mathlib.Core.List.{List, [], ◌∷◌, Memᴰ}
 use mathlib.Core.Logic.{⊎_elim}
@@ -21,17 +21,17 @@ use Rattle.plan.specs.Split.{Given, given, Planned}
 use Rattle.plan.specs.Puts.{PutStep, Going, begun, after_put, after_all_puts, Placed, EachPut, PutRight}
 use Rattle.plan.specs.Orders.{Rearranged, in_turn}
 use Rattle.plan.proofs.PlanLaws.{plan-answer, planned-done, labels_of, given-each, planned-lent}
-use Rattle.plan.proofs.OrderLaws.{filled-anchor, filled-card, turns-placed, turns-right}
+use Rattle.plan.proofs.OrderLaws.{filled-anchor, unfilled-anchor, filled-card, turns-placed, turns-right}
 use Rattle.replay.specs.Run.{finished}
 use Rattle.plan.proofs.ListLaws.{is-every}
 use Rattle.host_bytes.specs.Host.{anchor_bytes, anchor_of, with_root, with_reserved, with_nonces, code_of, Host, Hosts, Codes}
 use Rattle.host_bytes.specs.RoundTrip.{Stands}
 use Rattle.host_bytes.proofs.HostLaws.{host-call}
-use Rattle.host_bytes.proofs.AnchorLaws.{code-whole, whole_code}
+use Rattle.host_bytes.proofs.AnchorLaws.{put-stands, code-whole, whole_code}
 use Rattle.host_replay.specs.Called.{PlanCalled, PutCalled, split, put_steps, last_anchor, last_card, Meets}
 use Rattle.host_replay.specs.Plain.{put_at, all_put, PutsUntouched, tag_for, RightTags, InTurn, LikeWrite, SplitGoesOn}
 use Rattle.host_replay.proofs.SplitSteps.{plan_on, PutsTold, put-left, plan-depth, plan-codes, plan-stands, split-puts, split-codes}
-use Rattle.host_replay.proofs.SplitSteps.{split-untouched, split-bytes}
+use Rattle.host_replay.proofs.SplitSteps.{last-anchor, split-untouched, split-bytes}
 use Rattle.host_replay.proofs.Filling.{or_true, whole, tag-is, fills-is, rights-so}
 
 -- Lists of puts in turn
@@ -231,9 +231,30 @@ module _ (s : List ℕ) (long : length s ≡ anchor_bytes) (p : PlanCalled) (qs 
         filled = c.filled;
       })
 
+  -- a plan that its puts do not fill
+  lost-stays : all_put s p qs ≡ false → last_anchor p.anchor qs ≡ p.anchor
+  lost-stays f =
+      let d = planned-done F a p.card p.index p.block p.ranges done in
+      let ok = (accepted F a p.card (write p.index p.block p.ranges) done).limits-passed in
+      let k = (plan-stands a s stands p qs met zero).0 in
+      let none-full = ap (λ (n : ℕ). full n (after_all_puts (begun o) (put_steps qs)).plan)
+      (sym (plan-depth F a p.card p.index p.block p.ranges)) ∙ fills-is a s stands p qs met zero ∙ f in
+      let e = (last-anchor qs (begun o) p.anchor k told).is
+      ∙ unfilled-anchor F (length-cmac a.key) a p.card p.index p.block p.ranges done (put_steps qs) none-full in
+      ⊎_elim (λ (same : last_anchor p.anchor qs ≡ p.anchor). same)
+      (λ (new : last_anchor p.anchor qs ≡ with_root p.anchor (plan_on a p).plan.root.0).
+      let moved : a.root.0 ≡ a.reserved.0 + a.depth =
+      ap (λ (b : Anchor). b.root.0)
+      (sym e ∙ ap anchor_of (new ∙ ap (λ (q : Planned). with_root p.anchor q.plan.root.0) d)
+      ∙ (put-stands p.anchor k.long (a.reserved.0 + a.depth) ok.unspent).is) in
+      absurd (omega (arith, moved, ok.sound.deep, ok.sound.within)))
+      (split-bytes a s stands p qs met zero)
+
   pub split-goes-on : SplitGoesOn s p qs
   split-goes-on =
       record {
+        raises = planned-bytes;
+        lost-stays = lost-stays;
         like-write = like-write;
         in-turn = λ us order turn. (
           all-zero us order turn,

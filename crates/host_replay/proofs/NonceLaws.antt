@@ -71,7 +71,8 @@ module _ (anchor card made left : List ℕ) (formatted : Formatted anchor card 0
   followed-each = followed anchor card made left formatted rs ran complete
 
   -- in the end
-  nonces-after : PlainNonces (anchor_of anchor).depth rs (after (cmac_of (anchor_of anchor).key) (begin anchor card) (steps rs)).store.anchor
+  nonces-after : PlainNonces (anchor_of anchor).depth rs
+      (after (cmac_of (anchor_of anchor).key) (begin anchor card) (steps rs)).store.anchor
   nonces-after =
       let n = (anchor_of anchor).depth in
       let d = (demand3-of-calls anchor card made left formatted rs ran complete).nonces in

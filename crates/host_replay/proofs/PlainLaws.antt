@@ -74,7 +74,9 @@ module _ (anchor card made left : List ℕ) (formatted : Formatted anchor card 0
 
   depth_is : (p : Place rs) → (store p).anchor.depth ≡ (anchor_of anchor).depth
   unfolding start format
-  depth_is p = (after-key (cmac_of k) (length-cmac k) (steps p.before) s₀ (complete-before anchor card made left formatted rs ran complete p)).1
+  depth_is p =
+      (after-key (cmac_of k) (length-cmac k) (steps p.before) s₀
+      (complete-before anchor card made left formatted rs ran complete p)).1
 
   agreed : Agreement (cmac_of (anchor_of anchor).key) (begin anchor card) (steps rs) → Agreed (anchor_of anchor).depth rs
   agreed a p zero =
@@ -215,6 +217,6 @@ module _ (anchor card made left : List ℕ) (formatted : Formatted anchor card 0
         quiet = quiet;
         accepted = accepted;
         nonces = nonces-at anchor card made left formatted rs ran complete;
-        kept = kept-at anchor card made left formatted rs ran complete;
+        root-kept = kept-at anchor card made left formatted rs ran complete;
         emptied = λ p zero w. emptied (2 ^ (anchor_of anchor).depth) p.before p.item zero w;
       }

@@ -232,7 +232,8 @@ runs-from (t ∷ ts) fit s h k = go t fit.0 (runs-from ts fit.1)
     go (Turn.split card i block ranges puts) f rest =
         let qs = put-calls s long card i block ranges puts f in
         let r : Called = split s (plan-called s long card i block ranges puts f) qs.puts in
-        let q = rest (last_anchor (plan-called s long card i block ranges puts f).anchor qs.puts) (back_of r).anchor (refl, split-long s long card i block ranges puts f) in
+        let q = rest (last_anchor (plan-called s long card i block ranges puts f).anchor qs.puts) (back_of r).anchor
+        (refl, split-long s long card i block ranges puts f) in
         record {
           calls = r ∷ q.calls;
           ran = (to-bytes s h k, split-meets s long card i block ranges puts f, q.ran);

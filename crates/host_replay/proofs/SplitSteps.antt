@@ -23,7 +23,8 @@ use Rattle.host_bytes.specs.Host.{anchor_of, with_root, code_of, Codes}
 use Rattle.host_bytes.specs.Split.{hosted_plan, HostsPlan}
 use Rattle.host_bytes.specs.RoundTrip.{Stands, StandsPlan}
 use Rattle.host_bytes.proofs.AnchorLaws.{code-whole, whole_code}
-use Rattle.host_bytes.proofs.SplitTripLaws.{plan-told, plan-stored, plan-refused, put-told, put-stored, put-bytes, put-keeps-root, put_refused}
+use Rattle.host_bytes.proofs.SplitTripLaws.{plan-told, plan-stored, plan-refused, put-told, put-stored, put-bytes, put-keeps-root}
+use Rattle.host_bytes.proofs.SplitTripLaws.{put_refused}
 use Rattle.host_replay.specs.Called.{PlanCalled, PutCalled, split, put_steps, last_anchor, last_card, PutsMeet}
 use Rattle.host_replay.specs.Called.{NonePut, Meets}
 use Rattle.host_replay.specs.Plain.{PutsUntouched}

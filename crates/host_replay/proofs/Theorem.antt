@@ -26,8 +26,8 @@ use Rattle.replay.proofs.Theorem.{demand3, unforged, afresh, nonces}
 use Rattle.host_bytes.specs.Host.{anchor_bytes, anchor_of, code_of, Codes}
 use Rattle.host_bytes.specs.RoundTrip.{Stands}
 use Rattle.host_bytes.proofs.AnchorLaws.{whole_code, call-stands, call-codes, format-whole, format-left, format-stands}
-use Rattle.host_replay.specs.Called.{Held, bytes, struct, anchor_in, Back, PlanCalled, PutCalled, AttemptCalled, Called, call, split, attempt}
-use Rattle.host_replay.specs.Called.{given_to, step_of}
+use Rattle.host_replay.specs.Called.{Held, bytes, struct, anchor_in, Back, PlanCalled, PutCalled, AttemptCalled, Called, call, split}
+use Rattle.host_replay.specs.Called.{attempt, given_to, step_of}
 use Rattle.host_replay.specs.Called.{steps, back_of, Says}
 use Rattle.host_replay.specs.Called.{Meets, Handed, History, Formatted, begin, Demand3Of}
 use Rattle.host_replay.specs.Plain.{all_put, stands, reserves, FilledIn, AllFilled}
@@ -87,14 +87,17 @@ step-told (call given card c back) s e l m =
 step-told (split given p qs) s e l m = split-codes s.store.anchor given (record { long = l; is = e }) p qs m
 step-told (attempt given t) s e l m = attempt-codes s.store.anchor given (record { long = l; is = e }) t m
 
--- it stands in the list where it stands in C's own terms, and reserves nonces where it does there
 both-refused : {a b c d : Bool} → a ≡ c → (c ≡ true → b ≡ d) → (a && b) ≡ (c && d)
 both-refused {c = true} e f = ap₂ ◌&&◌ e (f refl)
 both-refused {b = b} {c = false} e f = ap (λ (x : Bool). x && b) e
 
+-- it stands in the list where it stands in C's own terms, and reserves nonces where it does there
+abbrev pub SameFate : List ℕ → State → Called → Type 0
+SameFate key s r =
+    (Run.stands (cmac_of key) s.store (step_of r) ≡ stands r) × (Run.reserves (cmac_of key) s.store (step_of r) ≡ reserves r)
+
 step-stands : (r : Called) (s : State) → anchor_in (given_to r) ≡ s.store.anchor → Long (given_to r) → Meets r
-    → (Run.stands (cmac_of s.store.anchor.key) s.store (step_of r) ≡ stands r)
-    × (Run.reserves (cmac_of s.store.anchor.key) s.store (step_of r) ≡ reserves r)
+    → SameFate s.store.anchor.key s r
 step-stands (call given card c back) s e l m =
     let o = outcome (cmac_of s.store.anchor.key) s.store.anchor card c in
     let w = sym (code_is o.answer back.code (step-told (call given card c back) s e l m).coded) in
@@ -114,10 +117,6 @@ module _ (key : List ℕ) where
   abbrev F : List ℕ → List ℕ
   F = cmac_of key
 
-  -- what a step answered and left, after those before it
-  abbrev pub Tells : State → List Called → Called → Type 0
-  Tells s before r = Told (result F (after F s (steps before)).store (step_of r)) (back_of r)
-
   -- the anchor's bytes, if it is given bytes, are of their length, and stand for what is known
   abbrev pub Knows : State → Held → Type 0
   Knows s h = (s.store.anchor.key ≡ key) × Long h × (anchor_in h ≡ s.store.anchor)
@@ -133,11 +132,8 @@ module _ (key : List ℕ) where
     told_here =
         subst (λ (l : List ℕ). Told (result (cmac_of l) s.store (step_of r)) (back_of r)) k.0 (step-told r s given_is given-long m)
 
-    pub stands-here : (Run.stands (cmac_of key) s.store (step_of r) ≡ stands r) × (Run.reserves (cmac_of key) s.store (step_of r) ≡ reserves r)
-    stands-here =
-        subst
-        (λ (l : List ℕ). (Run.stands (cmac_of l) s.store (step_of r) ≡ stands r) × (Run.reserves (cmac_of l) s.store (step_of r) ≡ reserves r))
-        k.0 (step-stands r s given_is given-long m)
+    pub stands-here : SameFate key s r
+    stands-here = subst (λ (l : List ℕ). SameFate l s r) k.0 (step-stands r s given_is given-long m)
 
     pub knows-next : Complete (cmac_of key) s.store (step_of r) → Knows (next (cmac_of key) s (step_of r)) (back_of r).anchor
     unfolding next

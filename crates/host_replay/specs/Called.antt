@@ -119,8 +119,8 @@ reached s t stood = t.anchor
 abbrev pub chip_anchor : List ℕ → AttemptCalled → List ℕ
 chip_anchor s t = cond (eqb t.code 0) (reached s t t.fate) s
 
--- What was answered and left; by a split write the plan's code and ranges, and anchor and card as they are after its puts; by an attempt the
--- anchor that the chip has then.
+-- What was answered and left; by a split write the plan's code and ranges, and anchor and card as they are after its puts; of an attempt's
+-- anchors it is the one that the chip has then.
 abbrev pub back_of : Called → Back
 back_of (call given card c back) = back
 back_of (split given p qs) =
@@ -171,7 +171,8 @@ Meets (attempt given t) = AttemptMeets given t
 abbrev pub Formatted : List ℕ → List ℕ → ℕ → List ℕ → List ℕ → Type 0
 Formatted anchor card code made left = Hosts (host_format anchor card) code made left []
 
--- A call is given the anchor as the one before it left it, after an attempt the chip's; only between bytes and a struct does the caller make it anew.
+-- A call is given the anchor as the one before it left it, or as the chip has it after an attempt; only between bytes and a struct does the
+-- caller make it anew.
 abbrev pub Handed : Held → Held → Type 0
 Handed (bytes s) (bytes e) = e ≡ s
 Handed (bytes s) (struct b) = b ≡ anchor_of s

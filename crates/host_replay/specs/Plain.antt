@@ -19,7 +19,8 @@ use Rattle.host_bytes.specs.Host.{anchor_bytes, anchor_of, with_reserved, host_c
 use Rattle.host_bytes.specs.Journal.{host_journalled, HostsJournalled}
 use Rattle.host_bytes.specs.Split.{plan_bytes, tag_bytes, host_plan, HostsPlan, host_put, HostsPut}
 use Rattle.host_replay.specs.Called.{Held, bytes, anchor_in, Back, PlanCalled, PutCalled, AttemptCalled, Called, call, split, attempt}
-use Rattle.host_replay.specs.Called.{last_anchor, last_card, given_to, back_of, step_of, steps, PlanMeets, PutsMeet, AttemptMeets, Meets, begin}
+use Rattle.host_replay.specs.Called.{given_to, step_of, steps, last_anchor, last_card, back_of, PlanMeets, PutsMeet, AttemptMeets, Meets}
+use Rattle.host_replay.specs.Called.{begin}
 
 -- the call; a split write and an attempt are writes
 abbrev pub called : Called → Call
@@ -50,7 +51,7 @@ reserves (call given card c back) = eqb back.code 0 && renews c
 reserves (split given p qs) = eqb p.code 0
 reserves (attempt given t) = eqb t.code 0 && heard t.fate
 
--- The card as the format, or the last write or wipe that stands, left it; a split write leaves it after its last put that answered 0, and an
+-- The card as the format, or the last write or wipe that stands, left it; a split write leaves it after its last put that answered 0, an
 -- attempt with all its ranges out.
 abbrev pub left_by : List ℕ → List Called → List ℕ
 left_by left [] = left
@@ -154,15 +155,18 @@ LikeWrite s p qs =
     Hosts (host_call s p.card (Calls.write p.index p.block p.ranges))
     p.code (last_anchor p.anchor qs) (last_card p.left qs) p.lent
 
--- Of a plan that answered 0 and its puts, which was given the anchor s: filled on untouched cards it ends as pat_write does, whatever
--- refused puts stand among the others; and puts in turn, in any order of its nodes, all answer 0 and fill it so.
+-- Of a plan that was given the anchor s and answered 0, and its puts: it leaves s with the reserved nonce raised, and so that stays where the
+-- puts do not fill it; filled on untouched cards it ends as pat_write does, whatever refused puts stand among the others; and puts in turn,
+-- in any order of its nodes, all answer 0 and fill it so.
 pub record SplitGoesOn (s : List ℕ) (p : PlanCalled) (qs : List PutCalled) : Type 0 where
+  pub raises : p.anchor ≡ with_reserved s ((anchor_of s).reserved.0 + (anchor_of s).depth)
+  pub lost-stays : all_put s p qs ≡ false → last_anchor p.anchor qs ≡ p.anchor
   pub like-write : all_put s p qs ≡ true → RightTags s p qs → PutsUntouched p.left qs → LikeWrite s p qs
   pub in-turn : (us : List ℕ) → Rearranged us (plan_nodes (anchor_of s).depth p.index) → InTurn s p p.left us qs
       → ((q : PutCalled) → Memᴰ q qs → q.code ≡ 0) × (all_put s p qs ≡ true) × RightTags s p qs × PutsUntouched p.left qs
 
--- An attempt that answered 0 and was given the anchor s leaves card, ranges and final anchor as pat_write does, byte for byte; and the anchor
--- that is stored first is that one with the reserved nonce raised.
+-- Of an attempt that was given the anchor s and answered 0: card, ranges and final anchor are as pat_write leaves them, byte for byte, and
+-- the anchor that is stored first is s with the reserved nonce raised.
 pub record AttemptLikeWrite (s : List ℕ) (t : AttemptCalled) : Type 0 where
   pub wrote : Hosts (host_call s t.card (Calls.write t.index t.block t.ranges)) t.code t.anchor t.left t.lent
   pub raises : t.raised ≡ with_reserved s ((anchor_of s).reserved.0 + (anchor_of s).depth)
@@ -188,9 +192,9 @@ pub record PlainDemand (anchor card left : List ℕ) (rs : List Called) : Type 0
   pub accepted : Each rs (λ before r.
       WritesUntouched left before → shown r ≡ left_by left before
       → first_failing (limits_of (anchor_in (given_to r)) (step_of r)) ≡ none → (back_of r).code ≡ 0)
-  -- the nonces that each call leaves, and the root nonce that one leaves which does not stand
+  -- the nonces that each call leaves; and one that does not stand leaves the root nonce as it was
   pub nonces : Each rs (λ before r. PlainNonces (anchor_of anchor).depth (before ++ (r ∷ [])) (anchor_in (back_of r).anchor))
-  pub kept : Each rs (λ before r. stands r ≡ false → (anchor_in (back_of r).anchor).root ≡ (anchor_in (given_to r)).root)
+  pub root-kept : Each rs (λ before r. stands r ≡ false → (anchor_in (back_of r).anchor).root ≡ (anchor_in (given_to r)).root)
   -- a wipe that answered 0 leaves the array of after a format
   pub emptied : Each rs (λ before r.
       (back_of r).code ≡ 0 → called r ≡ Calls.wipe
