@@ -2,7 +2,7 @@
 use mathlib.Core.Path.{◌≡◌, refl, sym, ap, subst, ◌∙◌}
 use mathlib.Core.List.{List}
 use mathlib.Core.Logic.{inr}
-use Prim.Native.Nat.{ℕ, ◌+◌, ◌*◌, ◌^◌, ◌<◌, ◌≤◌}
+use Prim.Native.Nat.{ℕ, ◌+◌, ◌*◌, ◌%◌, ◌^◌, ◌<◌, ◌≤◌}
 use native.Mathlib.Omega.{arith}
 use lib.ListN.{length}
 use Rattle.tables.proofs.Tables.{sbox-at}
@@ -20,10 +20,16 @@ use Rattle.tree.specs.declared.Anchor.{Anchor}
 use Rattle.tree.specs.Answer.{Answer}
 use Rattle.tree.specs.Answer.{Whole}
 use Rattle.tree.proofs.LabelLaws.{labels-below}
-use Rattle.tree.proofs.LimitLaws.{Writes}
+use Rattle.tree.proofs.LimitLaws.{Sound, Writes}
 use Rattle.tree.proofs.WriteLaws.{written-length, written-labels, Clean, clean-blanked}
 use Rattle.tree.proofs.CallLaws.{accepted, clean-accepts, clean-done, outcome-answer, outcome-done, format-accept}
 use Rattle.scope.specs.Table.{anchor, refused, RowF, RowG, Table}
+
+-- where no nonce is lost, 1, 2 and 3 ask for a multiple of the depth and for the card's length
+sound-at : (key : List ℕ) (n t : ℕ) (card : List ℕ) → 1 ≤ n → n ≤ 16 → t % n ≡ 0 → length card ≡ card_length n
+    → Sound (anchor key n t t) card
+sound-at key n t card deep shallow m full =
+    record { deep = deep; shallow = shallow; multiple = m; reserved_multiple = m; within = omega arith; full = full }
 
 module _ (F : List ℕ → List ℕ) (F16 : (m : List ℕ) → length (F m) ≡ 16) where
   -- a write's new labels, on the card that it left
@@ -89,7 +95,7 @@ module _ (F : List ℕ → List ℕ) (F16 : (m : List ℕ) → length (F m) ≡ 
               let clean = formatted key 3 card (omega arith) (omega arith) full in
               within (anchor key 3 0 0) (format F key 3 card).card 5 b r clean
               (record {
-                sound = record { deep = omega arith; shallow = omega arith; multiple = refl; reserved_multiple = refl; within = omega arith; full = clean.full };
+                sound = sound-at key 3 0 _ (omega arith) (omega arith) refl clean.full;
                 inside = omega arith;
                 long = long;
                 room = omega arith;
@@ -117,7 +123,7 @@ module _ (F : List ℕ → List ℕ) (F16 : (m : List ℕ) → length (F m) ≡ 
           let left = clean-done F F16 (anchor key 2 0 0) card (write 2 b r) p clean in
           within (anchor key 2 2 2) (written F 2 0 0 card 2 b) 0 c s left
           (record {
-            sound = record { deep = omega arith; shallow = omega arith; multiple = refl; reserved_multiple = refl; within = omega arith; full = left.full };
+            sound = sound-at key 2 2 _ (omega arith) (omega arith) refl left.full;
             inside = omega arith;
             long = longc;
             room = omega arith;
@@ -130,7 +136,7 @@ module _ (F : List ℕ → List ℕ) (F16 : (m : List ℕ) → length (F m) ≡ 
             accepted = λ card full.
                 let clean = formatted key 2 card (omega arith) (omega arith) full in
                 let p : Writes (anchor key 2 0 0) (format F key 2 card).card 2 b r = record {
-                  sound = record { deep = omega arith; shallow = omega arith; multiple = refl; reserved_multiple = refl; within = omega arith; full = clean.full };
+                  sound = sound-at key 2 0 _ (omega arith) (omega arith) refl clean.full;
                   inside = omega arith;
                   long = long;
                   room = omega arith;

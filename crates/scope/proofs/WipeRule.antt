@@ -12,7 +12,8 @@ use lib.ListN.{length}
 use lib.Pow.{pow_mono}
 use Rattle.cmac.specs.Cmac.{cmac_of}
 use Rattle.cmac.proofs.Laws.{length-cmac}
-use Rattle.tree.specs.Layout.{IsNode, card_length}
+use Rattle.tree.specs.Numbers.{be8}
+use Rattle.tree.specs.Layout.{IsNode, card_length, label}
 use Rattle.tree.specs.Card.{blanked}
 use Rattle.tree.specs.Limits.{Limit, depth_limit, nonce_limit, first_failing}
 use Rattle.tree.specs.Answer.{number_of}
@@ -29,6 +30,13 @@ use Rattle.tree.proofs.CallLaws.{accepted, wipe-accepts, outcome-answer, outcome
 use Rattle.words.proofs.Cases.{equal_or_not, below_or_not}
 use Rattle.scope.specs.WipeRule.{Empty, NoncesFit, WipeRule, FormatRule}
 
+-- the nonces of an empty card
+pub blank-nonces : (F : List ℕ → List ℕ) → ((m : List ℕ) → length (F m) ≡ 16) → (n t : ℕ) (card : List ℕ) → 1 ≤ n
+    → length card ≡ card_length n → (u : ℕ) → 2 ≤ u → u < 2 ^ n → label n (blanked F n t card) u ≡ be8 t
+blank-nonces F F16 n t card deep full u low high =
+    let node : IsNode n u = record { low = low; high = omega arith } in
+    sym (labels-below n t (blanked F n t card) u low) ∙ blanked-labels F F16 n deep t card full u (inr node) ∙ blank-inner n t u high
+
 blanked-empty : (key : List ℕ) (n t : ℕ) (card : List ℕ) → 1 ≤ n → length card ≡ card_length n
     → Empty key n t (blanked (cmac_of key) n t card)
 blanked-empty key n t card deep full =
@@ -42,9 +50,7 @@ blanked-empty key n t card deep full =
           sym (labels-below n t c (2 ^ n + i) (omega arith))
           ∙ blanked-labels F F16 n deep t card full (2 ^ n + i) (inr (leaf-node n i deep h))
           ∙ blank-leaf n t (2 ^ n + i) (omega arith);
-      nonces = λ u h l.
-          let node : IsNode n u = record { low = h; high = omega arith } in
-          sym (labels-below n t c u h) ∙ blanked-labels F F16 n deep t card full u (inr node) ∙ blank-inner n t u l;
+      nonces = blank-nonces F F16 n t card deep full;
       tags = λ u h. sym (blanked-right F F16 n deep t card full u h);
     }
 
@@ -62,7 +68,8 @@ unfit a d =
   where
     by-order : a.root.0 % a.depth ≡ 0 → a.reserved.0 % a.depth ≡ 0 → (a.reserved.0 < a.root.0) ⊎ (a.root.0 ≤ a.reserved.0)
         → (nonce_limit a.depth a.root.0 a.reserved.0).fails ≡ true
-    by-order t h (inl l) = rw (equal_is (a.root.0 % a.depth) 0 t, equal_is (a.reserved.0 % a.depth) 0 h, lt-ltb a.reserved.0 a.root.0 l) refl
+    by-order t h (inl l) =
+        rw (equal_is (a.root.0 % a.depth) 0 t, equal_is (a.reserved.0 % a.depth) 0 h, lt-ltb a.reserved.0 a.root.0 l) refl
     by-order t h (inr g) = absurd (d (record { root = t; reserved = h; not_below = g }))
 
     by-reserved : a.root.0 % a.depth ≡ 0 → (a.reserved.0 % a.depth ≡ 0) ⊎ (a.reserved.0 % a.depth ≡ 0 → ⊥)
