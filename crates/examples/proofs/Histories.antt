@@ -192,7 +192,8 @@ pub split-computed : let s = (formatted 2).store in
     (together.store ≡ (next checksum (formatted 2) (call s.left (writing 2 2))).store)
     × (o.call.answer ≡ Whole)
     × (seen g (twice tags_back)
-    ≡ record { answer = Whole; root = 0; reserved = 2; filled = 4 } ∷ record { answer = Refused NotAwaited; root = 0; reserved = 2; filled = 4 }
+    ≡ record { answer = Whole; root = 0; reserved = 2; filled = 4 }
+    ∷ record { answer = Refused NotAwaited; root = 0; reserved = 2; filled = 4 }
     ∷ record { answer = Whole; root = 0; reserved = 2; filled = 6 } ∷ record { answer = Whole; root = 0; reserved = 2; filled = 7 }
     ∷ record { answer = Whole; root = 2; reserved = 2; filled = 15 } ∷ [])
 unfolding start next moved format format_answer zeroed limits first_failing checks outcome answer_of first_wrong blanked written stamped
