@@ -217,16 +217,18 @@ pub record PlainGoesOn (left : List ℕ) : Type 0 where
   pub untouched-split : (s : List ℕ) (p : PlanCalled) (qs : List PutCalled) → p.card ≡ left
       → ((k : Place qs) → k.item.code ≡ 0 → k.item.step.card ≡ last_card p.left k.before) → Untouched left (split s p qs)
   pub untouched-attempt : (s : List ℕ) (t : AttemptCalled) → t.card ≡ left → Untouched left (attempt s t)
-  -- A plan that answered 0 stands where each of its nodes has a put that did, and is lost where one has none. An attempt that answered 0
-  -- stands where it came to its new root nonce, and not where it was lost, or where its raised anchor never stood: then the chip has the
-  -- bytes that it was given.
+  -- A plan that answered 0 stands where each of its nodes has a put that did, and is lost where one has none.
   pub split-stands : (s : List ℕ) (p : PlanCalled) (qs : List PutCalled) → p.code ≡ 0
       → ((u : ℕ) → Memᴰ u (plan_nodes (anchor_of s).depth p.index) → put_at u qs ≡ true) → stands (split s p qs) ≡ true
   pub put-here : (q : PutCalled) (qs : List PutCalled) → Memᴰ q qs → q.code ≡ 0 → put_at q.step.node qs ≡ true
   pub split-lost : (s : List ℕ) (p : PlanCalled) (qs : List PutCalled) (u : ℕ) → Memᴰ u (plan_nodes (anchor_of s).depth p.index)
       → ((q : PutCalled) → Memᴰ q qs → q.code ≡ 0 → q.step.node ≡ u → ⊥) → stands (split s p qs) ≡ false
-  pub attempt-stands : (s : List ℕ) (t : AttemptCalled) → t.code ≡ 0 → t.fate ≡ stood → stands (attempt s t) ≡ true
-  pub attempt-lost : (s : List ℕ) (t : AttemptCalled) → t.fate ≡ lost → stands (attempt s t) ≡ false
+  -- An attempt that answered 0 stands where it came to its new root nonce, and not where it was lost, or where its raised anchor never stood;
+  -- the next call is given its final anchor, its raised one, or the one that it was given.
+  pub attempt-stands : (s : List ℕ) (t : AttemptCalled) → t.code ≡ 0 → t.fate ≡ stood
+      → (stands (attempt s t) ≡ true) × ((back_of (attempt s t)).anchor ≡ bytes t.anchor)
+  pub attempt-lost : (s : List ℕ) (t : AttemptCalled) → t.fate ≡ lost
+      → (stands (attempt s t) ≡ false) × (t.code ≡ 0 → (back_of (attempt s t)).anchor ≡ bytes t.raised)
   pub attempt-unheard : (s : List ℕ) (t : AttemptCalled) → t.fate ≡ unheard
       → (stands (attempt s t) ≡ false) × ((back_of (attempt s t)).anchor ≡ bytes s)
   -- what does not stand leaves the array and the card as last left
