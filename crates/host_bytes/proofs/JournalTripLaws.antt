@@ -9,6 +9,7 @@ use lib.Dec.{eqb}
 use lib.ListN.{length}
 use Rattle.cmac.specs.Cmac.{cmac_of}
 use Rattle.tree.specs.Answer.{Answer, Whole, Wrong, Refused, is_whole}
+use Rattle.tree.specs.Calls.{Outcome}
 use Rattle.tree.specs.declared.Anchor.{Anchor}
 use Rattle.journal.specs.Journalled.{Journalled, journalled_answer, journalled_settled, journalled, Journals}
 use Rattle.journal.specs.Recovery.{recovered}
@@ -51,7 +52,8 @@ module _ (s r card : List ℕ) (i : ℕ) (block ranges journal : List ℕ) where
       → HostsJournalled (host_journalled s r card i block ranges journal) refused_length s r card ranges journal
   unfolding host_journalled
   journalled-unmeasured d =
-      rw (either-wrong s r d)
+      subst (λ (b : Bool). HostsJournalled (cond b (hosted_journalled s r o) unmeasured) refused_length s r card ranges journal)
+      (sym (either-wrong s r d))
       (record { coded = refl; anchored = refl; raises = refl; left = refl; filled = refl; journals = refl })
 
   pub host-journalled : BothLong s r → host_journalled s r card i block ranges journal ≡ hosted_journalled s r o
@@ -144,21 +146,26 @@ module _ (s r card : List ℕ) (i : ℕ) (block ranges journal : List ℕ) where
 -- The recovery
 
 module _ (s card journal : List ℕ) (code : ℕ) (e left : List ℕ) (g : Hosts (host_recovery s card journal) code e left []) where
+  abbrev brought : Outcome
+  brought = recovered (cmac_of (anchor_of s).key) (anchor_of s) card journal
+
+  hosts : length s ≡ anchor_bytes → Hosts (hosted false s brought) code e left []
+  unfolding host_recovery
+  hosts long = subst (λ (h : Host). Hosts h code e left []) (measured-in s card [] (hosted false s brought) long) g
+
   pub recovery-stored : e ≡ s
   unfolding host_recovery
   recovery-stored = g.anchored ∙ go (eqb (length s) anchor_bytes)
     where
-      go : (b : Bool)
-          → (cond b (hosted false s (recovered (cmac_of (anchor_of s).key) (anchor_of s) card journal))
-          (record { code = refused_length; anchor = s; card = card; lent = [] })).anchor ≡ s
+      go : (b : Bool) → (cond b (hosted false s brought) (record { code = refused_length; anchor = s; card = card; lent = [] })).anchor ≡ s
       go true = refl
       go false = refl
 
   pub recovery-told : length s ≡ anchor_bytes
       → Codes (recovered (cmac_of (anchor_of s).key) (anchor_of s) card journal) code (anchor_of e) left []
-  unfolding host_recovery recovered
+  unfolding recovered
   recovery-told long =
-      let t = subst (λ (h : Host). Hosts h code e left []) (measured-in s card [] _ long) g in
+      let t = hosts long in
       record { coded = t.coded; anchored = ap anchor_of recovery-stored; left = t.left; filled = t.filled }
 
   pub recovery-refused : (code ≡ 0 → ⊥) → (e ≡ s) × (left ≡ card)

@@ -50,7 +50,8 @@ fn settle(
         (with_nonces anchor.old (result_unwrap_or made (record { raised = anchor_of anchor.old; anchor = anchor_of anchor.old })).anchor)
         anchor.old }
     ensures raised_after { raised.new ≡ cond (is_whole (answer_in made))
-        (with_reserved anchor.old (result_unwrap_or made (record { raised = anchor_of anchor.old; anchor = anchor_of anchor.old })).raised.reserved.0)
+        (with_reserved anchor.old
+        (result_unwrap_or made (record { raised = anchor_of anchor.old; anchor = anchor_of anchor.old })).raised.reserved.0)
         raised.old }
 {
     if let Ok(written) = made {

@@ -93,7 +93,7 @@ pub(crate) fn recover(anchor: Anchor, card: &mut [u8], journal: &[u8]) -> Result
     Ok(())
 }
 
-// Whether the journal is to be applied. There is no context but for one that is for the anchor's root nonce.
+// Whether the journal is to be applied. A context is made only for one that has the anchor's root nonce.
 fn applies(anchor: Anchor, journal: &JournalView) -> bool
     ensures { result ≡ applies (cmac_of anchor.key) journal.now.depth.levels anchor.root.0 journal.now.bytes.now }
 {

@@ -1,5 +1,5 @@
 -- A journalled write of the lengths that are right is made.
-use Rattle.std.proofs.Common.{rules, sym, ap, ◌∙◌}
+use Rattle.std.proofs.Common.{sym, ap, ◌∙◌}
 use Rattle.host_bytes.specs.Host.{anchor_of}
 use Rattle.host_bytes.proofs.JournalTripLaws.{journalled-measured}
 use Rattle.host_bytes.proofs.Sizes as Sizes
