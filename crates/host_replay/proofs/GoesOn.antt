@@ -76,6 +76,10 @@ attempt-falls : (s : List ℕ) (t : AttemptCalled) (fate : Fate) → t.fate ≡ 
 attempt-falls s t fate e f =
     ap (λ (b : Bool). eqb t.code 0 && b) (ap has_stood e ∙ f) ∙ and_false (eqb t.code 0)
 
+reached-so : (s : List ℕ) (t : AttemptCalled) (fate : Fate) → t.code ≡ 0 → t.fate ≡ fate
+    → (back_of (attempt s t)).anchor ≡ bytes (reached s t fate)
+reached-so s t fate zero e = ap₂ (λ (b : Bool) (f : Fate). bytes (cond b (reached s t f) s)) (eq-eqb t.code 0 zero) e
+
 unheard-stays : (s : List ℕ) (t : AttemptCalled) → t.fate ≡ Run.unheard → (back_of (attempt s t)).anchor ≡ bytes s
 unheard-stays s t e =
     ap (λ (f : Fate). bytes (cond (eqb t.code 0) (reached s t f) s)) e ∙ ap bytes (both (eqb t.code 0))
@@ -123,8 +127,11 @@ plain-goes-on left =
           (is-every (λ u. put_at u qs) (plan_nodes (anchor_of s).depth p.index) h);
       put-here = put-here;
       split-lost = split-lost;
-      attempt-stands = λ s t zero e. ap₂ (λ (b : Bool) (f : Fate). b && has_stood f) (eq-eqb t.code 0 zero) e;
-      attempt-lost = λ s t e. attempt-falls s t Run.lost e refl;
+      attempt-stands = λ s t zero e. (
+        ap₂ (λ (b : Bool) (f : Fate). b && has_stood f) (eq-eqb t.code 0 zero) e,
+        reached-so s t Run.stood zero e,
+      );
+      attempt-lost = λ s t e. (attempt-falls s t Run.lost e refl, λ zero. reached-so s t Run.lost zero e);
       attempt-unheard = λ s t e. (attempt-falls s t Run.unheard e refl, unheard-stays s t e);
       stays = stays left;
       filled-call = λ s card c back. tt;

@@ -90,18 +90,18 @@ module _ (s : List ℕ) (p : PlanCalled) where
     ran : PutsMeet e b puts
     turn : InTurn s p left us puts
 
-  turns-from : (us e b left : List ℕ) → TurnsRun e b left us
-  turns-from [] e b left = record { puts = []; ran = tt; turn = tt }
-  turns-from (u ∷ us) e b left =
-      let h = host_put e b left u (tag_for s p u) in
+  turns-from : (us e b k : List ℕ) → TurnsRun e b k us
+  turns-from [] e b k = record { puts = []; ran = tt; turn = tt }
+  turns-from (u ∷ us) e b k =
+      let h = host_put e b k u (tag_for s p u) in
       let q : PutCalled = record {
-        step = record { card = left; node = u; tag = tag_for s p u };
+        step = record { card = k; node = u; tag = tag_for s p u };
         code = h.code;
         anchor = h.anchor;
         plan = h.plan;
         card = h.card;
       } in
-      let rest = turns-from us h.anchor h.plan (last_card left (q ∷ [])) in
+      let rest = turns-from us h.anchor h.plan (last_card k (q ∷ [])) in
       record {
         puts = q ∷ rest.puts;
         ran = (

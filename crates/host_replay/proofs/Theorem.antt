@@ -232,9 +232,9 @@ module _ (anchor card made left : List ℕ) (formatted : Formatted anchor card 0
   unfolding start format
   keyed = refl
 
-  depth-is : (begin anchor card).store.anchor.depth ≡ (anchor_of anchor).depth
+  depth_is : (begin anchor card).store.anchor.depth ≡ (anchor_of anchor).depth
   unfolding start format
-  depth-is = refl
+  depth_is = refl
 
   -- filled split writes are complete
   pub filled-complete : AllFilled rs → AllComplete (cmac_of (anchor_of anchor).key) (begin anchor card) (steps rs)
@@ -264,7 +264,7 @@ module _ (anchor card made left : List ℕ) (formatted : Formatted anchor card 0
             let z = after (cmac_of k) (begin anchor card) (steps p.before) in
             let kept = after-key (cmac_of k) (length-cmac k) (steps p.before) (begin anchor card) (complete-before complete p) in
             fills-journal k given t z (subst (Follows k z) e (followed complete p)) zero
-            ∙ ap (λ (d : ℕ). journal_of (cmac_of k) d (anchor_of t.anchor).root.0 t.index t.left) (kept.1 ∙ depth-is);
+            ∙ ap (λ (d : ℕ). journal_of (cmac_of k) d (anchor_of t.anchor).root.0 t.index t.left) (kept.1 ∙ depth_is);
         told = λ p.
             let f = followed complete p in
             told_here k p.item (after (cmac_of k) (begin anchor card) (steps p.before)) f.held f.knows f.handed f.met;

@@ -58,8 +58,8 @@ pub record PutCalled : Type 0 where
   pub plan : List ℕ
   pub card : List ℕ
 
--- pat_write_journalled: what it was given beside the anchor, what it answered and left, with both anchors, and how far the attempt came
--- before the power went
+-- pat_write_journalled: what it was given beside the anchor, what it answered and left, with both anchors, and how far the attempt came;
+-- one that is not cut stood
 pub record AttemptCalled : Type 0 where
   pub card : List ℕ
   pub index : ℕ

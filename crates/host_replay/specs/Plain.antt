@@ -155,9 +155,9 @@ LikeWrite s p qs =
     Hosts (host_call s p.card (Calls.write p.index p.block p.ranges))
     p.code (last_anchor p.anchor qs) (last_card p.left qs) p.lent
 
--- Of a plan that was given the anchor s and answered 0, and its puts: it leaves s with the reserved nonce raised, and so that stays where the
--- puts do not fill it; filled on untouched cards it ends as pat_write does, whatever refused puts stand among the others; and puts in turn,
--- in any order of its nodes, all answer 0 and fill it so.
+-- Of a plan that was given the anchor s and answered 0, and its puts: it leaves s with the reserved nonce raised, and so that stays where
+-- the puts do not fill it; filled on untouched cards it ends as pat_write does, whatever refused puts stand among the others; and puts in
+-- turn, in any order of its nodes, all answer 0 and fill it so.
 pub record SplitGoesOn (s : List ℕ) (p : PlanCalled) (qs : List PutCalled) : Type 0 where
   pub raises : p.anchor ≡ with_reserved s ((anchor_of s).reserved.0 + (anchor_of s).depth)
   pub lost-stays : all_put s p qs ≡ false → last_anchor p.anchor qs ≡ p.anchor
@@ -217,16 +217,18 @@ pub record PlainGoesOn (left : List ℕ) : Type 0 where
   pub untouched-split : (s : List ℕ) (p : PlanCalled) (qs : List PutCalled) → p.card ≡ left
       → ((k : Place qs) → k.item.code ≡ 0 → k.item.step.card ≡ last_card p.left k.before) → Untouched left (split s p qs)
   pub untouched-attempt : (s : List ℕ) (t : AttemptCalled) → t.card ≡ left → Untouched left (attempt s t)
-  -- A plan that answered 0 stands where each of its nodes has a put that did, and is lost where one has none. An attempt that answered 0
-  -- stands where it came to its new root nonce, and not where it was lost, or where its raised anchor never stood: then the chip has the
-  -- bytes that it was given.
+  -- A plan that answered 0 stands where each of its nodes has a put that did, and is lost where one has none.
   pub split-stands : (s : List ℕ) (p : PlanCalled) (qs : List PutCalled) → p.code ≡ 0
       → ((u : ℕ) → Memᴰ u (plan_nodes (anchor_of s).depth p.index) → put_at u qs ≡ true) → stands (split s p qs) ≡ true
   pub put-here : (q : PutCalled) (qs : List PutCalled) → Memᴰ q qs → q.code ≡ 0 → put_at q.step.node qs ≡ true
   pub split-lost : (s : List ℕ) (p : PlanCalled) (qs : List PutCalled) (u : ℕ) → Memᴰ u (plan_nodes (anchor_of s).depth p.index)
       → ((q : PutCalled) → Memᴰ q qs → q.code ≡ 0 → q.step.node ≡ u → ⊥) → stands (split s p qs) ≡ false
-  pub attempt-stands : (s : List ℕ) (t : AttemptCalled) → t.code ≡ 0 → t.fate ≡ stood → stands (attempt s t) ≡ true
-  pub attempt-lost : (s : List ℕ) (t : AttemptCalled) → t.fate ≡ lost → stands (attempt s t) ≡ false
+  -- An attempt that answered 0 stands where it came to its new root nonce, and not where it was lost, or where its raised anchor never
+  -- stood; the next call is given its final anchor, its raised one, or the one that it was given.
+  pub attempt-stands : (s : List ℕ) (t : AttemptCalled) → t.code ≡ 0 → t.fate ≡ stood
+      → (stands (attempt s t) ≡ true) × ((back_of (attempt s t)).anchor ≡ bytes t.anchor)
+  pub attempt-lost : (s : List ℕ) (t : AttemptCalled) → t.fate ≡ lost
+      → (stands (attempt s t) ≡ false) × (t.code ≡ 0 → (back_of (attempt s t)).anchor ≡ bytes t.raised)
   pub attempt-unheard : (s : List ℕ) (t : AttemptCalled) → t.fate ≡ unheard
       → (stands (attempt s t) ≡ false) × ((back_of (attempt s t)).anchor ≡ bytes s)
   -- what does not stand leaves the array and the card as last left
