@@ -4,9 +4,12 @@ recovery leaves the old card where T is the old one and the new card where it is
 import random
 import unittest
 
-from support import KEY, Card, ToolCase, block
+from support import FAULTS, KEY, Card, ToolCase, block
 
 OLD, NEW, JUNK = range(3)
+
+# The tool with sanitizers is slower, and gets a part of the tears.
+PART = 1 if FAULTS else 7
 
 
 class Junk(ToolCase):
@@ -31,10 +34,10 @@ class Junk(ToolCase):
 
     def tears(self, length, every, mixtures):
         """Which byte is of which kind: new up to every so many-th place and old behind it, the byte there of each kind; and mixtures."""
-        for place in range(0, length, every):
+        for place in range(0, length, every * PART):
             for kind in (OLD, NEW, JUNK):
                 yield [NEW] * place + [kind] + [OLD] * (length - place - 1)
-        for _ in range(mixtures):
+        for _ in range(mixtures // PART):
             yield [self.drawn.randrange(3) for _ in range(length)]
 
     def places(self):
