@@ -102,7 +102,8 @@ class Junk(ToolCase):
         for depth in (1, 2, 3):
             for index in range(2**depth):
                 self.begin(depth, index)
-                for anchor, journal, card in (("old", 0, self.old), ("raised", 0, self.old), ("raised", 1, self.old), ("new", 1, self.old), ("new", 1, self.new)):
+                steps = [("old", 0, self.old), ("raised", 0, self.old), ("raised", 1, self.old), ("new", 1, self.old), ("new", 1, self.new)]
+                for anchor, journal, card in steps:
                     self.put_media(card, anchor, self.journals[journal])
                     self.expect(anchor)
 
