@@ -1,5 +1,5 @@
 // Every order in which the tags of a small card can come; tags that are wrong or late, and what
-// finds them; and plans that are given up.
+// finds them; and plans that are left unfinished.
 #include "split.h"
 #include "tests.h"
 
@@ -167,7 +167,7 @@ static void try_damaged(const struct store *s, uint64_t index) {
     drop_store(&damaged);
 }
 
-// The tag of a plan that was given up comes late and is put under the next plan of the block: it is
+// The tag of a plan that was left comes late and is put under the next plan of the block: it is
 // taken, its own is then refused, and a read of the block finds it.
 static void come_late(const struct store *s, uint64_t index) {
     static const uint8_t other[PAT_BLOCK_BYTES] = "another round";

@@ -4,9 +4,12 @@ recovery leaves the old card where T is the old one and the new card where it is
 import random
 import unittest
 
-from support import KEY, Card, ToolCase, block
+from support import FAULTS, KEY, Card, ToolCase, block
 
 OLD, NEW, JUNK = range(3)
+
+# The tool with sanitizers is slower, and gets a part of the tears.
+PART = 1 if FAULTS else 7
 
 
 class Junk(ToolCase):
@@ -31,10 +34,10 @@ class Junk(ToolCase):
 
     def tears(self, length, every, mixtures):
         """Which byte is of which kind: new up to every so many-th place and old behind it, the byte there of each kind; and mixtures."""
-        for place in range(0, length, every):
+        for place in range(0, length, every * PART):
             for kind in (OLD, NEW, JUNK):
                 yield [NEW] * place + [kind] + [OLD] * (length - place - 1)
-        for _ in range(mixtures):
+        for _ in range(mixtures // PART):
             yield [self.drawn.randrange(3) for _ in range(length)]
 
     def places(self):
@@ -99,7 +102,8 @@ class Junk(ToolCase):
         for depth in (1, 2, 3):
             for index in range(2**depth):
                 self.begin(depth, index)
-                for anchor, journal, card in (("old", 0, self.old), ("raised", 0, self.old), ("raised", 1, self.old), ("new", 1, self.old), ("new", 1, self.new)):
+                steps = [("old", 0, self.old), ("raised", 0, self.old), ("raised", 1, self.old), ("new", 1, self.old), ("new", 1, self.new)]
+                for anchor, journal, card in steps:
                     self.put_media(card, anchor, self.journals[journal])
                     self.expect(anchor)
 

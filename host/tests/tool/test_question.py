@@ -171,7 +171,8 @@ class Question(ToolCase):
 
     def test_refused_before_it_is_asked(self):
         right = self.model.anchor(), bytes(self.model.bytes)
-        wrong = [(5, right[0][:31], right[1]), (1, KEY + bytes(24), right[1]), (2, right[0][:-1] + b"\7", right[1]), (2, right[0][:24] + b"\xff" * 8 + bytes(8), right[1])]
+        wrong = [(5, right[0][:31], right[1]), (1, KEY + bytes(24), right[1]), (2, right[0][:-1] + b"\7", right[1])]
+        wrong += [(2, right[0][:24] + b"\xff" * 8 + bytes(8), right[1])]
         wrong += [(3, right[0], right[1][:-1]), (7, right[0][:32] + b"\xff" * 8, right[1])]
         for number, anchor, card in wrong:
             self.anchor.write_bytes(anchor)

@@ -83,7 +83,8 @@ class Recover(ToolCase):
             card = bytearray(self.new)
             card[place] ^= 4
             self.place(card=bytes(card))
-            for words in (("check", self.anchor, self.card), ("check", "--all", self.anchor, self.card), ("read", self.anchor, self.card, "5")):
+            last = self.anchor, self.card
+            for words in (("check", *last), ("check", "--all", *last), ("read", *last, "5")):
                 done = self.tool(*words)
                 if words[0] == "read" and done.returncode == 0:
                     continue
@@ -143,7 +144,8 @@ class Recover(ToolCase):
         self.refused(2, *self.words)
         self.place(card=self.old[:-1], journal=bytes(1))
         self.refused(3, *self.words)
-        for words in (self.words, ("write", "--text", "x", self.anchor, self.card, "9"), ("write", "--input", "/dev/null", self.anchor, self.card, "1")):
+        last = self.anchor, self.card
+        for words in (self.words, ("write", "--text", "x", *last, "9"), ("write", "--input", "/dev/null", *last, "1")):
             self.place(journal=bytes(1))
             self.refused(10, *words)
             self.place()

@@ -42,7 +42,10 @@ class WipeCuts(FaultCase):
     def test_the_last_round_is_not_left_in_a_journal(self):
         self.start_again()
         for length in (0, 248, 1000):
-            self.accepted("write", "--text", "the last round", self.anchor, self.card, "5") if length == 248 else self.journal.write_bytes(bytes(length))
+            if length == 248:
+                self.accepted("write", "--text", "the last round", self.anchor, self.card, "5")
+            else:
+                self.journal.write_bytes(bytes(length))
             self.accepted(*self.words)
             self.assertFalse(self.journal.exists())
         self.journal.write_bytes(bytes(248))

@@ -22,7 +22,8 @@ class WriteCuts(FaultCase):
     def expected_steps(self):
         """The four steps, each synced before the next, behind a card that is synced."""
         def replaced(name, length):
-            return [f"write {name}.roundcard-new {length}", f"fsync {name}.roundcard-new", f"rename {name}.roundcard-new {name}", f"fsync {self.room.name}"]
+            new = f"{name}.roundcard-new"
+            return [f"write {new} {length}", f"fsync {new}", f"rename {new} {name}", f"fsync {self.room.name}"]
 
         ranges = [f"pwrite box.card {start} {length}" for start, length in self.ranges]
         anchor, journal = replaced("box.anchor", 40), replaced("box.card.roundcard-journal", 248)
@@ -192,7 +193,8 @@ class WriteCuts(FaultCase):
         for k in range(1, len(self.expected_steps()) + 1):
             self.start_again()
             process = self.stopped(f"any:{k}")
-            for words in (("read", self.anchor, self.card, "5"), ("write", "--text", "x", self.anchor, self.card, "5"), ("recover", self.anchor, self.card)):
+            last = self.anchor, self.card
+            for words in (("read", *last, "5"), ("write", "--text", "x", *last, "5"), ("recover", *last)):
                 done = self.tool(*words, "--wait=0")
                 self.assertEqual(done.returncode, FILE, (k, done.stdout))
                 self.assertIn(b"another process has the lock", done.stderr)
