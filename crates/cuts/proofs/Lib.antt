@@ -1,0 +1,9 @@
+pub mod Messages
+pub mod Mending
+pub mod CutLaws
+pub mod Known
+pub mod Attempts
+pub mod Others
+pub mod Recoveries
+pub mod Recovers
+pub mod Begins
