@@ -2,8 +2,11 @@ pub mod Messages
 pub mod Mending
 pub mod CutLaws
 pub mod Known
+pub mod Arrivals
 pub mod Attempts
 pub mod Others
 pub mod Recoveries
 pub mod Recovers
 pub mod Begins
+pub mod Chip
+pub mod IsList

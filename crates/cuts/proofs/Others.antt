@@ -21,7 +21,8 @@ use Rattle.cuts.specs.Media.{Media}
 use Rattle.cuts.specs.World.{calling, splitting, World, left_by, media_after}
 use Rattle.cuts.specs.World.{next_world, Possible}
 use Rattle.cuts.proofs.Known.{Core, core-next}
-use Rattle.cuts.proofs.Attempts.{open_after, placed, Inv}
+use Rattle.cuts.proofs.Arrivals.{placed}
+use Rattle.cuts.proofs.Attempts.{open_after, Inv}
 
 module _ (F : List ℕ → List ℕ) (F16 : (m : List ℕ) → length (F m) ≡ 16) (s : State) (journal card : List ℕ) where
   abbrev m : Media

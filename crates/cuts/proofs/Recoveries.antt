@@ -19,7 +19,8 @@ use Rattle.cuts.specs.NotEmpty.{pending_ranges}
 use Rattle.cuts.proofs.Mending.{Fine, Fake, consult}
 use Rattle.cuts.proofs.CutLaws.{of-beside, recovery-cuts}
 use Rattle.cuts.proofs.Known.{Core, core-sound, serves}
-use Rattle.cuts.proofs.Attempts.{open_after, placed, Inv}
+use Rattle.cuts.proofs.Arrivals.{placed}
+use Rattle.cuts.proofs.Attempts.{open_after, Inv}
 
 module _ (F : List ℕ → List ℕ) (F16 : (m : List ℕ) → length (F m) ≡ 16) (s : State) (journal card : List ℕ) where
   abbrev m : Media

@@ -15,7 +15,8 @@ use Rattle.cuts.specs.World.{Finished, Settled, Possible, Lawful}
 use Rattle.cuts.specs.Claim.{Restores, Serves, ForgedJournal, Consults, Forgery, Recovers}
 use Rattle.cuts.proofs.Mending.{Fine}
 use Rattle.cuts.proofs.Known.{serves}
-use Rattle.cuts.proofs.Attempts.{open_after, placed, placed-is, Inv, attempt-keeps}
+use Rattle.cuts.proofs.Arrivals.{placed, placed-is}
+use Rattle.cuts.proofs.Attempts.{open_after, Inv, attempt-keeps}
 use Rattle.cuts.proofs.Others.{call-keeps, split-keeps}
 use Rattle.cuts.proofs.Recoveries.{restores, recovery-keeps, look}
 
