@@ -1,17 +1,16 @@
 -- How far an attempt came: what is behind it then, on the media and in what is known.
-use mathlib.Core.Path.{◌≡◌, refl, sym, ap, subst, ◌∙◌}
-use mathlib.Core.Bool.{Bool, true, false, cond}
-use mathlib.Core.List.{List, [], ◌∷◌}
-use mathlib.Core.Logic.{◌⊎◌, inl, inr}
-use Prim.Native.Nat.{ℕ, ◌+◌, ◌≤◌}
+use mathlib.Core.Path.{◌≡◌, refl, sym, ap, ◌∙◌}
+use mathlib.Core.Bool.{Bool, cond}
+use mathlib.Core.List.{List}
+use mathlib.Core.Logic.{inl, inr}
+use Prim.Native.Nat.{ℕ, ◌+◌}
 use native.Mathlib.Omega.{arith}
-use lib.ListN.{length, set}
+use lib.ListN.{length}
 use Rattle.tree.specs.Ranges.{ranges_of}
 use Rattle.tree.specs.Answer.{Whole, is_whole}
 use Rattle.tree.specs.Calls.{renew}
 use Rattle.tree.specs.declared.Anchor.{Anchor}
 use Rattle.journal.specs.Journalled.{Journalled, journalled_answer}
-use Rattle.journal.proofs.BackLaws
 use Rattle.journal.proofs.BackLaws.{beside-sym, beside-written}
 use Rattle.journal.proofs.JournalledLaws.{journalled-answer, write-whole}
 use Rattle.replay.specs.Run.{Fate, unheard, lost, stood, Step, attempt, State, next, after}

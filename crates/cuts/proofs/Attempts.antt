@@ -1,5 +1,5 @@
 -- What holds along a list, and that an attempt, whole or cut, keeps it.
-use mathlib.Core.Path.{◌≡◌, refl, sym, ap, subst, ◌∙◌}
+use mathlib.Core.Path.{◌≡◌, sym, ap, subst, ◌∙◌}
 use mathlib.Core.Bool.{Bool, true, false}
 use mathlib.Core.List.{List}
 use mathlib.Core.List.Memᴰ
@@ -20,7 +20,7 @@ use Rattle.cuts.specs.NotEmpty.{new_card, Shown}
 use Rattle.cuts.proofs.Mending.{Pend}
 use Rattle.cuts.proofs.CutLaws.{of-beside, tried-ok, journal-full}
 use Rattle.cuts.proofs.Known.{Core, core-next}
-use Rattle.cuts.proofs.Arrivals.{placed, behind, full_media, Arrived, arrives, whole-is, refused-is}
+use Rattle.cuts.proofs.Arrivals.{placed, behind, full_media, arrives, whole-is, refused-is}
 use Rattle.cuts.proofs.Arrivals.{lost-move, stood-move, stood-left, unheard-still, chip-of}
 
 -- whether a cut is open behind an item

@@ -13,12 +13,10 @@ use Rattle.journal.specs.Journal.{journal_length}
 use Rattle.replay.specs.Run.{State, start}
 use Rattle.replay.proofs.Since.{Good, named_blank}
 use Rattle.replay.proofs.Theorem.{blank, begun-is, good_start}
-use Rattle.cuts.specs.World.{begins, Item, Lawful}
-use Rattle.cuts.specs.Claim.{Recovers}
+use Rattle.cuts.specs.World.{begins}
 use Rattle.cuts.proofs.Messages.{short-not, blank-short, Told}
 use Rattle.cuts.proofs.Known.{Core}
 use Rattle.cuts.proofs.Attempts.{Inv}
-use Rattle.cuts.proofs.Recovers.{recovers-from}
 
 module _ (F : List ℕ → List ℕ) (F16 : (m : List ℕ) → length (F m) ≡ 16) (key : List ℕ) (n : ℕ) (deep : 1 ≤ n) (shallow : n ≤ 16)
     (card : List ℕ) (full : length card ≡ card_length n) where
@@ -51,8 +49,3 @@ module _ (F : List ℕ → List ℕ) (F16 : (m : List ℕ) → length (F m) ≡ 
   unfolding begins start format
   inv-begins journal long =
       record { chip = refl; core = core; long = long; pend = inl refl; rest = λ e. refl }
-
-  pub recovers-any : (journal : List ℕ) → length journal ≡ journal_length n → (xs : List Item) → Lawful F (begins F key n card journal) xs
-      → Recovers F (begins F key n card journal) xs
-  recovers-any journal long xs lawful =
-      recovers-from F F16 (begins F key n card journal) xs (inv-begins journal long) lawful

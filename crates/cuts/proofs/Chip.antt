@@ -1,15 +1,14 @@
 -- The list of a world is one of demand 3, whatever was forged: the chip has the anchor that is known, and every step is complete.
 use mathlib.Core.Path.{◌≡◌, refl, sym, ap, subst, ◌∙◌}
-use mathlib.Core.Bool.{Bool, true, false, cond}
-use mathlib.Core.List.{List, [], ◌∷◌, ◌++◌, Memᴰ}
+use mathlib.Core.Bool.{Bool, cond}
+use mathlib.Core.List.{List, [], ◌∷◌, ◌++◌}
 use mathlib.Core.Logic.{⊎_elim}
 use Prim.Native.Nat.{ℕ}
 use lib.ListN.{length}
-use Rattle.tree.specs.Answer.{Answer, Whole, is_whole}
-use Rattle.tree.specs.declared.Anchor.{Anchor}
+use Rattle.tree.specs.Answer.{Whole, is_whole}
 use Rattle.journal.specs.Recovery.{recovered}
 use Rattle.replay.specs.Places.{Place}
-use Rattle.replay.specs.Run.{Step, call, split, attempt, State, next, after}
+use Rattle.replay.specs.Run.{Step, call, split, State, next, after}
 use Rattle.replay.specs.Claim.{Complete, AllComplete}
 use Rattle.replay.proofs.PlaceLaws.{first, later, earlier, no_place, at_places}
 use Rattle.replay.proofs.Along.{after-append}
@@ -17,8 +16,8 @@ use Rattle.replay.proofs.Moves.{whole-or-not, not-whole}
 use Rattle.cuts.specs.Media.{Media}
 use Rattle.cuts.specs.World.{Ending, whole, cut, Item, attempting, recovering, calling, splitting, World, ended, left_by, tried, recovery, media_after}
 use Rattle.cuts.specs.World.{steps_of, next_world, world_after, steps, Possible}
-use Rattle.cuts.proofs.CutLaws.{recovery-cuts}
-use Rattle.cuts.proofs.Arrivals.{placed, placed-is, Arrived, arrives, refused-is, chip-of}
+use Rattle.cuts.proofs.RecoveryLaws.{recovery-cuts}
+use Rattle.cuts.proofs.Arrivals.{placed, placed-is, arrives, refused-is, chip-of}
 
 module _ (F : List ℕ → List ℕ) where
   -- what is known is so along the list
@@ -56,7 +55,7 @@ module _ (F : List ℕ → List ℕ) where
           done : (e : Ending) → Possible F m (recovering e) → (recovery F m).answer ≡ Whole
               → (ended e (left_by m (recovery F m))).anchor ≡ s.store.anchor
           done whole p w = refl
-          done (cut v) p w = ((recovery-cuts F m).shown v (p w)).0
+          done (cut v) p w = ((recovery-cuts F m w).shown v (p w)).0
 
       chip-placed : (x : Item) → Possible F m x → Chip (next_world F (placed s journal card) x)
       unfolding next next_world media_after after
@@ -83,7 +82,7 @@ module _ (F : List ℕ → List ℕ) where
       complete-placed (splitting i block ranges puts) p rest k =
           at_places (λ before z. Complete F (after F s before).store z) (split card i block ranges puts) rest (λ w f. (p w).right) k
 
-    chip-next : (w : World) (x : Item) → Chip w → Possible F w.media x → Chip (next_world F w x)
+    pub chip-next : (w : World) (x : Item) → Chip w → Possible F w.media x → Chip (next_world F w x)
     chip-next w x chip =
         subst (λ (z : World). Possible F z.media x → Chip (next_world F z x)) (placed-is w chip)
         (chip-placed w.known w.media.journal w.media.card x)

@@ -1,4 +1,4 @@
--- What a cut may leave: of an attempt by its fate, of a recovery in its ranges.
+-- What a cut may leave of an attempt, by its fate.
 use mathlib.Core.Path.{◌≡◌, refl, sym, ap, ap₂, subst, ◌∙◌}
 use mathlib.Core.Bool.{Bool, cond}
 use mathlib.Core.List.{List, [], ◌∷◌}
@@ -19,7 +19,6 @@ use Rattle.tree.proofs.CallLaws.{accepted}
 use Rattle.tree.proofs.WriteLaws.{written-length}
 use Rattle.journal.specs.Journal.{scattered, journal_length}
 use Rattle.journal.specs.Journalled.{Journalled, journalled_answer, journalled_done}
-use Rattle.journal.specs.Recovery.{recovered}
 use Rattle.journal.proofs.JournalLaws.{own-length}
 use Rattle.journal.proofs.BackLaws
 use Rattle.journal.proofs.BackLaws.{beside-scattered, written-back}
@@ -27,8 +26,8 @@ use Rattle.journal.proofs.JournalledLaws.{journalled-answer, journalled-done, wr
 use Rattle.replay.specs.Run.{Fate, unheard, lost, stood}
 use Rattle.replay.proofs.PlaceLaws.{first, later, no_place, at_places}
 use Rattle.cuts.specs.Media.{Media, Part, anchor_out, journal_out, ranges_out, out, all_out, four_steps, Torn, Cut, fate_of}
-use Rattle.cuts.specs.World.{attempting, whole, tried, media_after}
-use Rattle.cuts.specs.NotEmpty.{Beside, new_card, new_journal, Shown, AttemptCuts, pending_ranges, RecoveryCuts}
+use Rattle.cuts.specs.World.{attempting, whole, cut, tried, media_after}
+use Rattle.cuts.specs.NotEmpty.{Beside, new_card, new_journal, Shown, AttemptCuts}
 use Rattle.cuts.proofs.Mending.{beside-refl}
 
 -- A cut is in the first step or in a later one.
@@ -199,6 +198,10 @@ module _ (F : List ℕ → List ℕ) (F16 : (m : List ℕ) → length (F m) ≡ 
       (written-back F F16 n tried-ok.sound.deep a.root.0 a.reserved.0 m.card i block tried-ok.sound.full tried-ok.inside tried-ok.long
       m.card (beside-refl rs m.card))
 
+  cut-leaves : (w : Media) → media_after F m (attempting i block ranges (cut w)) ≡ w
+  unfolding media_after
+  cut-leaves w = ap (λ (b : Bool). cond b w m) (ap is_whole whole-answer)
+
   pub whole-stood : fate_of m.anchor (renew m.anchor) ≡ stood
   whole-stood =
       fates stood (record { anchor = renew a; journal = new_journal F m i block; card = m.card })
@@ -215,20 +218,6 @@ module _ (F : List ℕ → List ℕ) (F16 : (m : List ℕ) → length (F m) ≡ 
         any-ranges = λ new.
             of-steps (shows-cut stood (record { anchor = renew a; journal = new_journal F m i block; card = scattered rs new m.card })
             (refl, refl, beside-of rs m.card (scattered rs new m.card) (beside-scattered rs new m.card)));
+        cut-leaves = cut-leaves;
         to-end = to-end;
       }
-
--- a recovery
-pub recovery-cuts : (F : List ℕ → List ℕ) (m : Media) → RecoveryCuts F m
-recovery-cuts F m =
-    let rs = pending_ranges F m in
-    let p = ranges_out rs (recovered F m.anchor m.card m.journal).card in
-    record {
-      shown = λ w c.
-          let t = cut-one m w p c in (t.anchor, t.journal, record { long = t.long; stands = t.stands });
-      cuts = λ w e. cut-now m w p [] (record { anchor = e.0; journal = e.1; long = e.2.long; stands = e.2.stands });
-      any-ranges = λ new.
-          let b = beside-scattered rs new m.card in
-          cut-now m (record { anchor = m.anchor; journal = m.journal; card = scattered rs new m.card }) p []
-          (record { anchor = refl; journal = refl; long = b.long; stands = b.stands });
-    }

@@ -1,19 +1,18 @@
 -- The list of a world is one of demand 3, and T on the chip tells array and card.
-use mathlib.Core.Path.{◌≡◌, refl, sym, ap, subst, ◌∙◌}
+use mathlib.Core.Path.{◌≡◌, refl, sym, subst}
 use mathlib.Core.List.{List}
 use Prim.Native.Nat.{ℕ, ◌≤◌}
 use lib.ListN.{length}
 use Rattle.tree.specs.Answer.{Whole}
 use Rattle.tree.specs.Layout.{card_length}
 use Rattle.tree.specs.Calls.{format}
-use Rattle.replay.specs.Places.{Place}
 use Rattle.replay.specs.Run.{State, start}
 use Rattle.replay.specs.Claim.{AllComplete, Demand3}
 use Rattle.replay.specs.Tagged.{Unforged}
 use Rattle.replay.specs.Nonces.{NonceRule}
 use Rattle.replay.proofs.Theorem.{demand3-any, unforged-any, nonces-any}
 use Rattle.cuts.specs.Media.{Media}
-use Rattle.cuts.specs.World.{Ending, Item, attempting, World, tried, next_world, world_after, steps, begins, Possible, before, Lawful}
+use Rattle.cuts.specs.World.{Ending, Item, attempting, World, tried, next_world, steps, begins, Possible, before, Lawful}
 use Rattle.cuts.specs.Claim.{ByRoot, IsList}
 use Rattle.cuts.proofs.Arrivals.{placed, placed-is, arrives, root-of}
 use Rattle.cuts.proofs.Chip.{known-is, chip-after, all-complete, chip-at}

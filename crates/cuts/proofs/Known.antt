@@ -3,19 +3,22 @@ use mathlib.Core.Path.{◌≡◌, refl, sym, subst}
 use mathlib.Core.List.{List, [], ◌∷◌}
 use Prim.Native.Nat.{ℕ, ◌≤◌}
 use native.Mathlib.Omega.{arith}
+use mathlib.Core.Option.{none}
 use lib.ListN.{length}
+use Rattle.tree.specs.declared.Node.{Node}
+use Rattle.tree.specs.Answer.{Whole, Wrong}
+use Rattle.tree.specs.Limits.{first_failing}
 use Rattle.tree.proofs.LimitLaws
 use Rattle.tree.proofs.WriteLaws.{Clean}
 use Rattle.tree.proofs.CallLaws.{clean-accepts, clean-answers}
 use Rattle.replay.specs.Places.{Place}
-use Rattle.replay.specs.Run.{Step, card_of, call_of, State, next, after}
-use Rattle.replay.specs.Claim.{Complete, Untouched, WroteUntouched, AllComplete}
+use Rattle.replay.specs.Run.{Step, card_of, call_of, limits_of, State, result, next, after}
+use Rattle.replay.specs.Claim.{Complete, Untouched, AgreesHere, WroteUntouched, AllComplete}
 use Rattle.replay.proofs.PlaceLaws.{no_place, at_places}
 use Rattle.replay.proofs.Moves.{stands-whole, step-wrong, step-passes, step-accept}
 use Rattle.replay.proofs.Anchors.{Sound, next-key, after-sound}
 use Rattle.replay.proofs.Agreement.{agrees-tagged}
 use Rattle.replay.proofs.Since.{Good, good-place, checks-tagged}
-use Rattle.cuts.specs.Claim.{Serves}
 use Rattle.cuts.proofs.Messages.{Told, told-next}
 
 module _ (F : List ℕ → List ℕ) (F16 : (m : List ℕ) → length (F m) ≡ 16) where
@@ -57,9 +60,14 @@ module _ (F : List ℕ → List ℕ) (F16 : (m : List ℕ) → length (F m) ≡ 
         told = told-next F F16 s k.deep k.told x complete untouched k.nonces.within;
       }
 
-  -- every step on that card is served
-  pub serves : (s : State) → Core s → (x : Step) → card_of x ≡ s.store.left → Serves F s x
-  serves s k x given =
+  -- What every step on that card is answered: never 8, no refusal within its limits, and what it shows is the array's.
+  pub record Served (s : State) (x : Step) : Type 0 where
+    pub never-wrong : (u : Node) → (result F s.store x).answer ≡ Wrong u → ⊥
+    pub accepts : first_failing (limits_of s.store.anchor x) ≡ none → (result F s.store x).answer ≡ Whole
+    pub agrees : AgreesHere F s x
+
+  pub served : (s : State) → Core s → (x : Step) → card_of x ≡ s.store.left → Served s x
+  served s k x given =
       let a = s.store.anchor in
       let clean : Clean F a.depth a.root.0 (card_of x) = subst (Clean F a.depth a.root.0) (sym given) k.good.clean in
       record {

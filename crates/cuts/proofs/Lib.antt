@@ -1,6 +1,7 @@
 pub mod Messages
 pub mod Mending
 pub mod CutLaws
+pub mod RecoveryLaws
 pub mod Known
 pub mod Arrivals
 pub mod Attempts
@@ -10,3 +11,4 @@ pub mod Recovers
 pub mod Begins
 pub mod Chip
 pub mod IsList
+pub mod Kept

@@ -17,8 +17,9 @@ use Rattle.cuts.specs.World.{Ending, whole, cut, recovering, World, recovery, me
 use Rattle.cuts.specs.Claim.{Shows, Restores, ForgedJournal}
 use Rattle.cuts.specs.NotEmpty.{pending_ranges}
 use Rattle.cuts.proofs.Mending.{Fine, Fake, consult}
-use Rattle.cuts.proofs.CutLaws.{of-beside, recovery-cuts}
-use Rattle.cuts.proofs.Known.{Core, core-sound, serves}
+use Rattle.cuts.proofs.CutLaws.{of-beside}
+use Rattle.cuts.proofs.RecoveryLaws.{recovery-cuts}
+use Rattle.cuts.proofs.Known.{Core, core-sound, served}
 use Rattle.cuts.proofs.Arrivals.{placed}
 use Rattle.cuts.proofs.Attempts.{open_after, Inv}
 
@@ -35,7 +36,7 @@ module _ (F : List ℕ → List ℕ) (F16 : (m : List ℕ) → length (F m) ≡ 
       let ok : Reads a s.store.left i buffer = record { sound = core-sound F F16 s core; inside = inside; long = long } in
       let w : (outcome F a s.store.left (read i buffer)).answer ≡ Whole =
       outcome-answer F a s.store.left (read i buffer) ∙ clean-accepts F a s.store.left core.good.clean (read i buffer) ok in
-      (w, (serves F F16 s core (call s.store.left (read i buffer)) refl).agrees w)
+      (w, (served F F16 s core (call s.store.left (read i buffer)) refl).agrees w)
 
   module _ (fine : Fine F s journal card) where
     answered : (recovery F m).answer ≡ Whole
@@ -72,7 +73,7 @@ module _ (F : List ℕ → List ℕ) (F16 : (m : List ℕ) → length (F m) ≡ 
         subst (Inv F F16 false) (sym (behind whole (record { anchor = a; journal = journal; card = s.store.left }) leaves))
         (record { chip = refl; core = inv.core; long = inv.long; pend = inl refl; rest = λ z. refl })
     recovery-keeps b (cut v) inv possible =
-        let k = (recovery-cuts F m).shown v (possible answered) in
+        let k = (recovery-cuts F m answered).shown v (possible answered) in
         subst (Inv F F16 true) (sym (behind (cut v) v (cut-leaves v)))
         (record {
           chip = k.0;

@@ -1,20 +1,24 @@
 -- The claim over cuts: every finished recovery restores, and where no cut is open every step is served; or a forged journal is shown.
-use mathlib.Core.Path.{◌≡◌, refl, ap, subst, ◌∙◌}
+use mathlib.Core.Path.{◌≡◌, refl, sym, subst, ◌∙◌}
 use mathlib.Core.Bool.{Bool, true, false}
-use mathlib.Core.List.Memᴰ
-use mathlib.Core.List.{List, [], ◌∷◌, Memᴰ}
+use mathlib.Core.List.{List, [], ◌∷◌}
 use mathlib.Core.Logic.{◌⊎◌, inl, inr, ⊎_elim}
 use Prim.Native.Nat.{ℕ}
 use lib.ListN.{length}
+use Rattle.tree.specs.Answer.{Whole}
+use Rattle.tree.specs.Calls.{Call, write, limits, outcome}
+use Rattle.journal.specs.Journalled.{journalled_limits}
+use Rattle.plan.specs.Puts.{PutStep}
 use Rattle.replay.specs.Places.{Place}
-use Rattle.replay.specs.Run.{Step, card_of, State}
+use Rattle.replay.specs.Run.{unheard, Step, call, split, attempt, card_of, told, State}
+use Rattle.replay.specs.Claim.{Agrees}
 use Rattle.replay.proofs.PlaceLaws.{first, later, no_place, at_places}
-use Rattle.cuts.specs.Media.{Media}
-use Rattle.cuts.specs.World.{whole, cut, Item, attempting, recovering, calling, splitting, World, steps_of, next_world, world_after, Writes}
-use Rattle.cuts.specs.World.{Finished, Settled, Possible, Lawful}
-use Rattle.cuts.specs.Claim.{Restores, Serves, ForgedJournal, Consults, Forgery, Recovers}
+use Rattle.replay.proofs.Moves.{split-answer}
+use Rattle.cuts.specs.World.{Ending, whole, cut, Item, attempting, recovering, calling, splitting, World, tried, laid_out, next_world, world_after}
+use Rattle.cuts.specs.World.{Writes, Finished, Settled, Possible, Lawful}
+use Rattle.cuts.specs.Claim.{Serves, IsRecovery, Restores, ForgedJournal, Forgery}
 use Rattle.cuts.proofs.Mending.{Fine}
-use Rattle.cuts.proofs.Known.{serves}
+use Rattle.cuts.proofs.Known.{Served, served}
 use Rattle.cuts.proofs.Arrivals.{placed, placed-is}
 use Rattle.cuts.proofs.Attempts.{open_after, Inv, attempt-keeps}
 use Rattle.cuts.proofs.Others.{call-keeps, split-keeps}
@@ -50,78 +54,107 @@ settled-closed (splitting i block ranges puts ∷ xs) b f s =
     settled-closed xs b (λ e. finished-later (splitting i block ranges puts) xs (λ z. cc) (f e)) (settled-later (splitting i block ranges puts) xs s)
 
 module _ (F : List ℕ → List ℕ) (F16 : (m : List ℕ) → length (F m) ≡ 16) where
+  -- What is claimed of an item, where a cut may be open before it
+
+  abbrev ServedCall : World → Call → Type 0
+  ServedCall w c =
+      let m = w.media in
+      let o = outcome F m.anchor m.card c in
+      Serves (limits m.anchor m.card c) o.answer
+      × (o.answer ≡ Whole → Agrees m.anchor.depth w.known.store.array m.card o.lent (told c))
+
+  abbrev pub Here : Bool → World → Item → Type 0
+  Here b w (attempting i block ranges e) =
+      let m = w.media in
+      Serves (journalled_limits m.anchor (length m.card) i (length block) (length ranges) (length m.journal))
+      (tried F m i block ranges).call.answer
+  Here b w (recovering whole) = Restores F w
+  Here b w (recovering (cut v)) = Unit {0}
+  Here b w (calling c) = b ≡ false → ServedCall w c
+  Here b w (splitting i block ranges puts) =
+      let m = w.media in
+      Serves (limits m.anchor m.card (write i block ranges)) (laid_out F m i block ranges).call.answer
+
   -- One item
 
   abbrev Keeps : Bool → Item → World → Type 0
   Keeps b x w =
       Inv F F16 b w → Possible F w.media x → (Writes x → b ≡ false)
-      → (Consults x × ForgedJournal F w) ⊎ (Inv F F16 (open_after b x) (next_world F w x) × (x ≡ recovering whole → Restores F w))
+      → (IsRecovery x × ForgedJournal F w) ⊎ (Inv F F16 (open_after b x) (next_world F w x) × Here b w x)
 
-  keeps-placed : (s : State) (journal card : List ℕ) (b : Bool) (x : Item) → Keeps b x (placed s journal card)
-  keeps-placed s journal card b (attempting i block ranges e) inv possible closed =
-      inr (attempt-keeps F F16 s journal card i block ranges inv.core (inv.rest (closed tt)) inv.long b e inv possible, λ z. cc)
-  keeps-placed s journal card b (recovering e) inv possible closed =
-      ⊎_elim (λ (f : ForgedJournal F (placed s journal card)). inl (tt, f))
-      (λ (f : Fine F s journal card).
-      inr (recovery-keeps F F16 s journal card f b e inv possible, λ z. restores F F16 s journal card f inv.core))
-      (look F F16 s journal card inv)
-  keeps-placed s journal card b (calling c) inv possible closed = inr (call-keeps F F16 s journal card b c inv closed, λ z. cc)
-  keeps-placed s journal card b (splitting i block ranges puts) inv possible closed =
-      inr (split-keeps F F16 s journal card b i block ranges puts inv (closed tt) possible, λ z. cc)
+  module _ (s : State) (journal card : List ℕ) where
+    abbrev w : World
+    w = placed s journal card
+
+    answered : (b : Bool) → Inv F F16 b w → b ≡ false → (x : Step) → card_of x ≡ card → Served F F16 s x
+    answered b inv e x k = served F F16 s inv.core x (k ∙ inv.rest e)
+
+    call-here : (b : Bool) (c : Call) → Inv F F16 b w → b ≡ false → ServedCall w c
+    call-here b c inv e =
+        let k = answered b inv e (call card c) refl in
+        (record { never-wrong = k.never-wrong; accepts = k.accepts }, k.agrees)
+
+    attempt-here : (b : Bool) (i : ℕ) (block ranges : List ℕ) (e : Ending) → Inv F F16 b w → b ≡ false
+        → Here b w (attempting i block ranges e)
+    attempt-here b i block ranges e inv closed =
+        let k = answered b inv closed (attempt card i block ranges journal unheard) refl in
+        record { never-wrong = k.never-wrong; accepts = k.accepts }
+
+    split-here : (b : Bool) (i : ℕ) (block ranges : List ℕ) (puts : List PutStep) → Inv F F16 b w → b ≡ false
+        → Here b w (splitting i block ranges puts)
+    split-here b i block ranges puts inv closed =
+        let k = answered b inv closed (split card i block ranges puts) refl in
+        let e = split-answer (laid_out F w.media i block ranges) puts in
+        record { never-wrong = λ u q. k.never-wrong u (e ∙ q); accepts = λ l. sym e ∙ k.accepts l }
+
+    recovery-here : (b : Bool) (e : Ending) → Inv F F16 b w → Fine F s journal card → Here b w (recovering e)
+    recovery-here b whole inv f = restores F F16 s journal card f inv.core
+    recovery-here b (cut v) inv f = tt
+
+    keeps-placed : (b : Bool) (x : Item) → Keeps b x (placed s journal card)
+    keeps-placed b (attempting i block ranges e) inv possible closed =
+        let c = closed tt in
+        inr (
+          attempt-keeps F F16 s journal card i block ranges inv.core (inv.rest c) inv.long b e inv possible,
+          attempt-here b i block ranges e inv c,
+        )
+    keeps-placed b (recovering e) inv possible closed =
+        ⊎_elim (λ (f : ForgedJournal F w). inl (tt, f))
+        (λ (f : Fine F s journal card). inr (recovery-keeps F F16 s journal card f b e inv possible, recovery-here b e inv f))
+        (look F F16 s journal card inv)
+    keeps-placed b (calling c) inv possible closed = inr (call-keeps F F16 s journal card b c inv closed, call-here b c inv)
+    keeps-placed b (splitting i block ranges puts) inv possible closed =
+        let c = closed tt in
+        inr (split-keeps F F16 s journal card b i block ranges puts inv c possible, split-here b i block ranges puts inv c)
 
   keeps : (w : World) (b : Bool) (x : Item) → Keeps b x w
   keeps w b x inv =
       subst (Keeps b x) (placed-is w inv.chip) (keeps-placed w.known w.media.journal w.media.card b x) inv
 
-  pub steps-card : (m : Media) (x : Item) (y : Step) → Memᴰ y (steps_of F m x) → card_of y ≡ m.card
-  steps-card m (attempting i block ranges e) y k = ap card_of (Memᴰ.eq_of_singleton k)
-  steps-card m (recovering e) y k = absurd (Memᴰ.not-nil k)
-  steps-card m (calling c) y k = ap card_of (Memᴰ.eq_of_singleton k)
-  steps-card m (splitting i block ranges puts) y k = ap card_of (Memᴰ.eq_of_singleton k)
-
   -- The list
 
-  abbrev Served : World → Item → Type 0
-  Served w x = (y : Step) → Memᴰ y (steps_of F w.media x) → Serves F w.known y
-
-  serves-here : (b : Bool) (w : World) (x : Item) → Inv F F16 b w → b ≡ false → Served w x
-  serves-here b w x inv e y k = serves F F16 w.known inv.core y (steps-card w.media x y k ∙ inv.rest e)
-
-  abbrev pub Fair : Bool → World → List Item → Type 0
+  abbrev Fair : Bool → World → List Item → Type 0
   Fair b w xs =
       (p : Place xs) → Possible F (world_after F w p.before).media p.item × (Writes p.item → all_open b p.before ≡ false)
 
-  abbrev KeptHere : Bool → World → Item → Type 0
-  KeptHere b w x = (x ≡ recovering whole → Restores F w) × (b ≡ false → Served w x)
+  abbrev pub HereFrom : Bool → World → List Item → Type 0
+  HereFrom b w xs = (p : Place xs) → Here (all_open b p.before) (world_after F w p.before) p.item
 
-  abbrev KeptFrom : Bool → World → List Item → Type 0
-  KeptFrom b w xs = (p : Place xs) → KeptHere (all_open b p.before) (world_after F w p.before) p.item
-
-  all : (xs : List Item) (b : Bool) (w : World) → Inv F F16 b w → Fair b w xs → KeptFrom b w xs ⊎ Forgery F w xs
+  all : (xs : List Item) (b : Bool) (w : World) → Inv F F16 b w → Fair b w xs → HereFrom b w xs ⊎ Forgery F w xs
   unfolding all_open world_after
   all [] b w inv fair = inl (λ p. absurd (no_place p))
   all (x ∷ xs) b w inv fair =
       let now = fair (first x xs) in
       ⊎_elim
-      (λ (f : Consults x × ForgedJournal F w). inr (record { place = first x xs; consults = f.0; forged = f.1 }))
-      (λ (k : Inv F F16 (open_after b x) (next_world F w x) × (x ≡ recovering whole → Restores F w)).
+      (λ (f : IsRecovery x × ForgedJournal F w). inr (record { place = first x xs; recovery = f.0; forged = f.1 }))
+      (λ (k : Inv F F16 (open_after b x) (next_world F w x) × Here b w x).
       ⊎_elim
-      (λ (rest : KeptFrom (open_after b x) (next_world F w x) xs).
-      inl (at_places (λ before y. KeptHere (all_open b before) (world_after F w before) y) x xs
-      (k.1, serves-here b w x inv) rest))
-      (λ (f : Forgery F (next_world F w x) xs). inr (record { place = later x f.place; consults = f.consults; forged = f.forged }))
+      (λ (rest : HereFrom (open_after b x) (next_world F w x) xs).
+      inl (at_places (λ before y. Here (all_open b before) (world_after F w before) y) x xs k.1 rest))
+      (λ (f : Forgery F (next_world F w x) xs). inr (record { place = later x f.place; recovery = f.recovery; forged = f.forged }))
       (all xs (open_after b x) (next_world F w x) k.0 (λ p. fair (later x p))))
       (keeps w b x inv now.0 now.1)
 
-  pub fair : (w : World) (xs : List Item) → Lawful F w xs → Fair false w xs
-  fair w xs l p = (l.possible p, λ k. settled-closed p.before false (λ e. cc) (l.settled p k))
-
-  pub recovers-from : (w : World) (xs : List Item) → Inv F F16 false w → Lawful F w xs → Recovers F w xs
-  recovers-from w xs inv l =
-      ⊎_elim
-      (λ (k : KeptFrom false w xs).
-      inl (record {
-        restored = λ p. (k p).0;
-        served = λ p e. (k p).1 (settled-closed p.before false (λ z. cc) e);
-      }))
-      (λ (f : Forgery F w xs). inr f) (all xs false w inv (fair w xs l))
+  pub here-or-forged : (w : World) (xs : List Item) → Inv F F16 false w → Lawful F w xs → HereFrom false w xs ⊎ Forgery F w xs
+  here-or-forged w xs inv l =
+      all xs false w inv (λ p. (l.possible p, λ k. settled-closed p.before false (λ e. cc) (l.settled p k)))
