@@ -82,8 +82,7 @@ module _ (F : List ℕ → List ℕ) (F16 : (m : List ℕ) → length (F m) ≡ 
 
     full-shown : Shown F m i block stood full_media
     full-shown =
-        let ok = tried-ok F F16 m i block ranges accepted in
-        (
+        let ok = tried-ok F F16 m i block ranges accepted in (
           refl,
           refl,
           beside-of (ranges_of a.depth i) card (new_card F m i block)
@@ -101,16 +100,18 @@ module _ (F : List ℕ → List ℕ) (F16 : (m : List ℕ) → length (F m) ≡ 
     pub whole-is : next_world F (placed s journal card) (attempting i block ranges whole) ≡ behind stood full_media
     whole-is = next-is whole full_media stood (to-end F F16 m i block ranges accepted) (whole-stood F F16 m i block ranges accepted)
 
+    pub cut-is : (v : Media) → next_world F (placed s journal card) (attempting i block ranges (cut v))
+        ≡ behind (fate_of s.store.anchor v.anchor) v
+    cut-is v = next-is (cut v) v (fate_of a v.anchor) (accepted-is (cut v)) refl
+
+    pub cut-shown : (v : Media) → Possible F (record { anchor = s.store.anchor; journal = journal; card = card }) (attempting i block ranges (cut v))
+        → Shown F (record { anchor = s.store.anchor; journal = journal; card = card }) i block (fate_of s.store.anchor v.anchor) v
+    cut-shown v p = shown F F16 m i block ranges accepted v (p accepted)
+
     pub arrives : (e : Ending) → Possible F (record { anchor = s.store.anchor; journal = journal; card = card }) (attempting i block ranges e)
         → Arrived e
     arrives whole p = record { fate = stood; media = full_media; is = whole-is; shown = full-shown }
-    arrives (cut v) p =
-        record {
-          fate = fate_of a v.anchor;
-          media = v;
-          is = next-is (cut v) v (fate_of a v.anchor) (accepted-is (cut v)) refl;
-          shown = shown F F16 m i block ranges accepted v (p accepted);
-        }
+    arrives (cut v) p = record { fate = fate_of a v.anchor; media = v; is = cut-is v; shown = cut-shown v p }
 
     -- What is known then
 

@@ -1,7 +1,7 @@
 -- What is claimed of a list, from what holds at each item of it.
 use mathlib.Core.Path.{◌≡◌, refl, sym, ap, subst, ◌∙◌}
-use mathlib.Core.Bool.{Bool, false}
-use mathlib.Core.List.{List, [], ◌∷◌, ◌++◌}
+use mathlib.Core.Bool.{false}
+use mathlib.Core.List.{List, [], ◌∷◌}
 use mathlib.Core.Logic.{inl, inr, ⊎_elim}
 use Prim.Native.Nat.{ℕ, ◌+◌}
 use lib.ListN.{length, set}
@@ -13,7 +13,7 @@ use Rattle.replay.specs.Run.{State, after}
 use Rattle.replay.proofs.PlaceLaws.{first, later}
 use Rattle.cuts.specs.Media.{Media}
 use Rattle.cuts.specs.World.{Ending, whole, Item, attempting, recovering, calling, splitting, World, tried, media_after, next_world, world_after}
-use Rattle.cuts.specs.World.{Settled, Possible, before, Lawful}
+use Rattle.cuts.specs.World.{Settled, Possible, Lawful}
 use Rattle.cuts.specs.Claim.{IsRecovery, Shows, Restores, Kept, Forgery, Recovers}
 use Rattle.cuts.proofs.Attempts.{Inv}
 use Rattle.cuts.proofs.Recovers.{all_open, settled-closed, Here, HereFrom, here-or-forged}
@@ -92,8 +92,7 @@ module _ (F : List ℕ → List ℕ) (F16 : (m : List ℕ) → length (F m) ≡ 
           let root : (media_after F u.media (recovering whole)).anchor.root.0 ≡ v.media.anchor.root.0 =
           ap (λ (m : Media). m.anchor.root.0) restores.leaves ∙ ap (λ (a : Anchor). a.root.0) chip-same in
           let array : u.known.store.array ≡ v.known.store.array = ap (λ (z : State). z.store.array) known-same in
-          subst Promise (sym is-whole)
-          (
+          subst Promise (sym is-whole) (
             λ k. shown w.known.store.array (array ∙ (r.old (sym root ∙ k)).0),
             λ k. shown (set w.known.store.array i block) (array ∙ (r.new (sym root ∙ k)).0),
           )

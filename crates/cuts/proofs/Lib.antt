@@ -12,3 +12,9 @@ pub mod Begins
 pub mod Chip
 pub mod IsList
 pub mod Kept
+pub mod TagLaws
+pub mod OwnLaws
+pub mod Forged
+pub mod ListLaws
+pub mod Going
+pub mod Theorem

@@ -30,7 +30,7 @@ all_open b [] = b
 all_open b (x ∷ xs) = all_open (open_after b x) xs
 
 -- By place none is open, and so none is.
-finished-later : (x : Item) (xs : List Item) → (x ≡ recovering whole → ⊥) → Finished (x ∷ xs) → Finished xs
+pub finished-later : (x : Item) (xs : List Item) → (x ≡ recovering whole → ⊥) → Finished (x ∷ xs) → Finished xs
 finished-later x xs d f =
     at_places (λ before y. y ≡ recovering whole → Finished xs) x xs (λ e. absurd (d e)) (λ p e. record { place = p; is = e }) f.place f.is
 
