@@ -22,18 +22,25 @@ use Rattle.cuts.specs.NotEmpty.{new_card, new_journal, Shown}
 use Rattle.cuts.proofs.CutLaws.{beside-of, tried-is, tried-ok, shown, to-end, whole-stood}
 
 -- the world in which the chip has the anchor that is known
+abbrev pub held : State → List ℕ → List ℕ → Media
+held s journal card = record { anchor = s.store.anchor; journal = journal; card = card }
+
 abbrev pub placed : State → List ℕ → List ℕ → World
-placed s journal card = record { media = record { anchor = s.store.anchor; journal = journal; card = card }; known = s }
+placed s journal card = record { media = held s journal card; known = s }
 
 pub placed-is : (w : World) → w.media.anchor ≡ w.known.store.anchor → placed w.known w.media.journal w.media.card ≡ w
 placed-is w e =
-    ap (λ (a : Anchor). let z : World = record { media = record { anchor = a; journal = w.media.journal; card = w.media.card }; known = w.known } in z)
+    ap
+    (λ (a : Anchor).
+    let m : Media = record { anchor = a; journal = w.media.journal; card = w.media.card } in
+    let z : World = record { media = m; known = w.known } in
+    z)
     (sym e)
 
 module _ (F : List ℕ → List ℕ) (F16 : (m : List ℕ) → length (F m) ≡ 16) (s : State) (journal card : List ℕ) (i : ℕ)
     (block ranges : List ℕ) where
   abbrev m : Media
-  m = record { anchor = s.store.anchor; journal = journal; card = card }
+  m = held s journal card
 
   abbrev a : Anchor
   a = s.store.anchor
@@ -57,7 +64,7 @@ module _ (F : List ℕ → List ℕ) (F16 : (m : List ℕ) → length (F m) ≡ 
 
   -- refused
   pub refused-is : (e : Ending)
-      → ((tried F (record { anchor = s.store.anchor; journal = journal; card = card }) i block ranges).call.answer ≡ Whole → ⊥)
+      → ((tried F (held s journal card) i block ranges).call.answer ≡ Whole → ⊥)
       → next_world F (placed s journal card) (attempting i block ranges e) ≡ placed s journal card
   unfolding media_after
   refused-is e d =
@@ -67,7 +74,7 @@ module _ (F : List ℕ → List ℕ) (F16 : (m : List ℕ) → length (F m) ≡ 
       ∙ ap (λ (z : State). let w : World = record { media = m; known = z } in w)
       (attempt-refused F s card i block ranges journal (fate_of a a) d)
 
-  module _ (accepted : (tried F (record { anchor = s.store.anchor; journal = journal; card = card }) i block ranges).call.answer ≡ Whole) where
+  module _ (accepted : (tried F (held s journal card) i block ranges).call.answer ≡ Whole) where
     answered : journalled_answer F a card i block ranges journal ≡ Whole
     answered = sym (journalled-answer F a card i block ranges journal) ∙ accepted
 
@@ -77,7 +84,7 @@ module _ (F : List ℕ → List ℕ) (F16 : (m : List ℕ) → length (F m) ≡ 
 
     abbrev pub full_media : Media
     full_media =
-        let m : Media = record { anchor = s.store.anchor; journal = journal; card = card } in
+        let m : Media = held s journal card in
         record { anchor = renew s.store.anchor; journal = new_journal F m i block; card = new_card F m i block }
 
     full-shown : Shown F m i block stood full_media
@@ -95,7 +102,7 @@ module _ (F : List ℕ → List ℕ) (F16 : (m : List ℕ) → length (F m) ≡ 
       pub fate : Fate
       pub media : Media
       pub is : next_world F (placed s journal card) (attempting i block ranges e) ≡ behind fate media
-      pub shown : Shown F (record { anchor = s.store.anchor; journal = journal; card = card }) i block fate media
+      pub shown : Shown F (held s journal card) i block fate media
 
     pub whole-is : next_world F (placed s journal card) (attempting i block ranges whole) ≡ behind stood full_media
     whole-is = next-is whole full_media stood (to-end F F16 m i block ranges accepted) (whole-stood F F16 m i block ranges accepted)
@@ -104,11 +111,11 @@ module _ (F : List ℕ → List ℕ) (F16 : (m : List ℕ) → length (F m) ≡ 
         ≡ behind (fate_of s.store.anchor v.anchor) v
     cut-is v = next-is (cut v) v (fate_of a v.anchor) (accepted-is (cut v)) refl
 
-    pub cut-shown : (v : Media) → Possible F (record { anchor = s.store.anchor; journal = journal; card = card }) (attempting i block ranges (cut v))
-        → Shown F (record { anchor = s.store.anchor; journal = journal; card = card }) i block (fate_of s.store.anchor v.anchor) v
+    pub cut-shown : (v : Media) → Possible F (held s journal card) (attempting i block ranges (cut v))
+        → Shown F (held s journal card) i block (fate_of s.store.anchor v.anchor) v
     cut-shown v p = shown F F16 m i block ranges accepted v (p accepted)
 
-    pub arrives : (e : Ending) → Possible F (record { anchor = s.store.anchor; journal = journal; card = card }) (attempting i block ranges e)
+    pub arrives : (e : Ending) → Possible F (held s journal card) (attempting i block ranges e)
         → Arrived e
     arrives whole p = record { fate = stood; media = full_media; is = whole-is; shown = full-shown }
     arrives (cut v) p = record { fate = fate_of a v.anchor; media = v; is = cut-is v; shown = cut-shown v p }
@@ -121,7 +128,7 @@ module _ (F : List ℕ → List ℕ) (F16 : (m : List ℕ) → length (F m) ≡ 
     pub stood-move : Wrote F s (attempt card i block ranges journal stood) i block ranges
     stood-move = attempt-wrote F F16 s card i block ranges (write-whole F a card i block ranges journal answered) journal answered
 
-    pub stood-left : stood-move.left ≡ new_card F (record { anchor = s.store.anchor; journal = journal; card = card }) i block
+    pub stood-left : stood-move.left ≡ new_card F (held s journal card) i block
     unfolding stood-move
     stood-left = attempt-left F F16 s card i block ranges (write-whole F a card i block ranges journal answered) journal answered
 
@@ -129,15 +136,15 @@ module _ (F : List ℕ → List ℕ) (F16 : (m : List ℕ) → length (F m) ≡ 
     unheard-still = attempt-unheard F s card i block ranges journal
 
     -- the chip has the anchor that is known
-    pub chip-of : (fate : Fate) (v : Media) → Shown F (record { anchor = s.store.anchor; journal = journal; card = card }) i block fate v
+    pub chip-of : (fate : Fate) (v : Media) → Shown F (held s journal card) i block fate v
         → v.anchor ≡ (next F s (attempt card i block ranges journal fate)).store.anchor
     chip-of unheard v e = ap (λ (z : Media). z.anchor) e ∙ sym (ap (λ (z : State). z.store.anchor) unheard-still)
     chip-of lost v e = e.0 ∙ sym (ap (λ (z : State). z.store.anchor) lost-move.is)
     chip-of stood v e = e.0 ∙ sym (ap (λ (z : State). z.store.anchor) stood-move.is)
 
     -- and its root nonce tells array and card
-    pub root-of : (fate : Fate) (v : Media) → Shown F (record { anchor = s.store.anchor; journal = journal; card = card }) i block fate v
-        → ByRoot (placed s journal card) (behind fate v) (tried F (record { anchor = s.store.anchor; journal = journal; card = card }) i block ranges) i block
+    pub root-of : (fate : Fate) (v : Media) → Shown F (held s journal card) i block fate v
+        → ByRoot (placed s journal card) (behind fate v) (tried F (held s journal card) i block ranges) i block
     root-of unheard v e =
         let ok = tried-ok F F16 m i block ranges accepted in
         let deep = ok.sound.deep in

@@ -20,7 +20,7 @@ use Rattle.cuts.specs.NotEmpty.{new_card, Shown}
 use Rattle.cuts.proofs.Mending.{Pend}
 use Rattle.cuts.proofs.CutLaws.{of-beside, tried-ok, journal-full}
 use Rattle.cuts.proofs.Known.{Core, core-next}
-use Rattle.cuts.proofs.Arrivals.{placed, behind, full_media, arrives, whole-is, refused-is}
+use Rattle.cuts.proofs.Arrivals.{held, placed, behind, full_media, arrives, whole-is, refused-is}
 use Rattle.cuts.proofs.Arrivals.{lost-move, stood-move, stood-left, unheard-still, chip-of}
 
 -- whether a cut is open behind an item
@@ -48,7 +48,7 @@ module _ (F : List ℕ → List ℕ) (F16 : (m : List ℕ) → length (F m) ≡ 
   module _ (s : State) (journal card : List ℕ) (i : ℕ) (block ranges : List ℕ) (core : Core F F16 s) (same : card ≡ s.store.left)
       (long : length journal ≡ journal_length s.store.anchor.depth) where
     abbrev m : Media
-    m = record { anchor = s.store.anchor; journal = journal; card = card }
+    m = held s journal card
 
     abbrev a : Anchor
     a = s.store.anchor
@@ -59,7 +59,7 @@ module _ (F : List ℕ → List ℕ) (F16 : (m : List ℕ) → length (F m) ≡ 
     abbrev world : Fate → Media → World
     world = behind F F16 s journal card i block ranges
 
-    module _ (accepted : (tried F (record { anchor = s.store.anchor; journal = journal; card = card }) i block ranges).call.answer ≡ Whole) where
+    module _ (accepted : (tried F (held s journal card) i block ranges).call.answer ≡ Whole) where
       -- by how far it came
       came : (fate : Fate) (v : Media) → Shown F m i block fate v → Inv true (world fate v)
       came unheard v e =
@@ -124,7 +124,7 @@ module _ (F : List ℕ → List ℕ) (F16 : (m : List ℕ) → length (F m) ≡ 
           subst (Inv true) (sym k.is) (came k.fate k.media k.shown)
 
     pub attempt-keeps : (b : Bool) (e : Ending) → Inv b (placed s journal card)
-        → Possible F (record { anchor = s.store.anchor; journal = journal; card = card }) (attempting i block ranges e)
+        → Possible F (held s journal card) (attempting i block ranges e)
         → Inv (open_after b (attempting i block ranges e)) (next_world F (placed s journal card) (attempting i block ranges e))
     unfolding open_after
     attempt-keeps b e inv possible =

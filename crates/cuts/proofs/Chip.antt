@@ -14,10 +14,11 @@ use Rattle.replay.proofs.PlaceLaws.{first, later, earlier, no_place, at_places}
 use Rattle.replay.proofs.Along.{after-append}
 use Rattle.replay.proofs.Moves.{whole-or-not, not-whole}
 use Rattle.cuts.specs.Media.{Media}
-use Rattle.cuts.specs.World.{Ending, whole, cut, Item, attempting, recovering, calling, splitting, World, ended, left_by, tried, recovery, media_after}
+use Rattle.cuts.specs.World.{Ending, whole, cut, Item, attempting, recovering, calling, splitting, World, ended, left_by, tried, recovery}
+use Rattle.cuts.specs.World.{media_after}
 use Rattle.cuts.specs.World.{steps_of, next_world, world_after, steps, Possible}
 use Rattle.cuts.proofs.RecoveryLaws.{recovery-cuts}
-use Rattle.cuts.proofs.Arrivals.{placed, placed-is, arrives, refused-is, chip-of}
+use Rattle.cuts.proofs.Arrivals.{held, placed, placed-is, arrives, refused-is, chip-of}
 
 module _ (F : List ℕ → List ℕ) where
   -- what is known is so along the list
@@ -40,7 +41,7 @@ module _ (F : List ℕ → List ℕ) where
 
     module _ (s : State) (journal card : List ℕ) where
       abbrev m : Media
-      m = record { anchor = s.store.anchor; journal = journal; card = card }
+      m = held s journal card
 
       recovery-chip : (e : Ending) → Possible F m (recovering e) → (media_after F m (recovering e)).anchor ≡ s.store.anchor
       unfolding media_after recovered

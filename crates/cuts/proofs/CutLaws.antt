@@ -127,7 +127,8 @@ module _ (F : List ℕ → List ℕ) (F16 : (m : List ℕ) → length (F m) ≡ 
   at-last w t = (stood, (t.anchor, t.journal, record { long = t.long; stands = t.stands }))
 
   at_third : (w : Media) → Torn p₃ m₂ w → length (new_journal F m i block) ≡ length m.journal → (f : Fate) × Shown F m i block f w
-  at_third w (inl e) long = (lost, (ap (λ (v : Media). v.anchor) e, ap (λ (v : Media). length v.journal) e ∙ long, ap (λ (v : Media). v.card) e))
+  at_third w (inl e) long =
+      (lost, (ap (λ (v : Media). v.anchor) e, ap (λ (v : Media). length v.journal) e ∙ long, ap (λ (v : Media). v.card) e))
   at_third w (inr e) long = (
     stood,
     (

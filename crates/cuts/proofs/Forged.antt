@@ -13,7 +13,8 @@ use Rattle.replay.specs.Run.{State, start, after}
 use Rattle.replay.specs.Claim.{AllComplete}
 use Rattle.replay.proofs.PlaceLaws.{earlier}
 use Rattle.replay.proofs.Theorem.{key-any}
-use Rattle.cuts.specs.World.{Ending, whole, cut, Item, attempting, recovering, calling, splitting, World, steps, begins, world_after, before, Lawful}
+use Rattle.cuts.specs.World.{Ending, whole, cut, Item, attempting, recovering, calling, splitting, World, steps, begins, world_after}
+use Rattle.cuts.specs.World.{before, Lawful}
 use Rattle.cuts.specs.Claim.{IsRecovery, Kept, Forgery, Recovers}
 use Rattle.cuts.specs.NotEmpty.{WrongTag, OwnJournals, NoForgery}
 use Rattle.cuts.proofs.Chip.{known-is, chip-at, all-complete}

@@ -9,21 +9,25 @@ use Rattle.tree.specs.Calls.{Call, renews}
 use Rattle.tree.specs.declared.Anchor.{Anchor}
 use Rattle.plan.specs.Split.{Given, planned}
 use Rattle.plan.specs.Puts.{PutStep, Going, begun, after_put, after_all_puts, EachPut, PutUntouched, PutRight}
+use Rattle.plan.specs.Places.{plan_nodes}
+use Rattle.plan.specs.Orders.{Rearranged, returned}
 use Rattle.plan.specs.Rule.{Waits}
 use Rattle.replay.specs.Places.{Place}
 use Rattle.replay.specs.Run.{State, fills, after}
 use Rattle.replay.specs.Tagged.{Accepts}
 use Rattle.replay.proofs.PlaceLaws.{first, later, earlier, last, no_place, at_places, at_more}
-use Rattle.replay.proofs.Moves.{both_true}
+use Rattle.replay.proofs.Moves.{both_true, split-answer}
 use Rattle.replay.proofs.Unforged.{goes_on}
 use Rattle.cuts.specs.Media.{Media}
-use Rattle.cuts.specs.World.{whole, cut, Item, attempting, recovering, calling, splitting, World, world_after, WasCut, Writes, Finished, Settled}
+use Rattle.cuts.specs.World.{whole, cut, Item, attempting, recovering, calling, splitting, World, world_after, WasCut, Writes, Finished}
+use Rattle.cuts.specs.World.{Settled}
 use Rattle.cuts.specs.World.{GoesThrough, Possible, Lawful}
 use Rattle.cuts.specs.NotEmpty.{GoesOn}
 use Rattle.cuts.proofs.Recovers.{finished-later}
 
 -- What is asked of the first item and those behind it, and of a later one and those behind that, is asked at every place.
-at_behind : {A : Type 0} (P : A → List A → Type 0) (x : A) (xs : List A) → P x xs → ((p : Place xs) → P p.item p.behind) → (p : Place (x ∷ xs))
+at_behind : {A : Type 0} (P : A → List A → Type 0) (x : A) (xs : List A) → P x xs → ((p : Place xs) → P p.item p.behind)
+    → (p : Place (x ∷ xs))
     → P p.item p.behind
 at_behind {A} P x xs here rest p = go p.before p.item p.behind p.is
   where
@@ -136,6 +140,16 @@ module _ (F : List ℕ → List ℕ) (F16 : (m : List ℕ) → length (F m) ≡ 
         filled = filled m.anchor m.card i block ranges puts w h.1;
       }
 
+  in-turn : (m : Media) (i : ℕ) (block ranges us : List ℕ) → Rearranged us (plan_nodes m.anchor.depth i)
+      → Possible F m (splitting i block ranges (returned F m.anchor m.card i block ranges us))
+  unfolding after
+  in-turn m i block ranges us order w =
+      let s : State = record { store = record { anchor = m.anchor; array = []; left = m.card }; tagged = [] } in
+      let puts = returned F m.anchor m.card i block ranges us in
+      let k = (goes_on F F16 s).in-turn [] i block ranges us order in
+      let full = (both_true F s.store _ _ (k.2 (split-answer (planned F m.anchor m.card i block ranges) puts ∙ w))).1 in
+      record { right = k.0 w full; untouched = k.1.1; filled = full }
+
   looks : (c : Call) → renews c ≡ false → renews c ≡ true → ⊥
   looks c e f = let z : false ≡ true = sym e ∙ f in absurd cc
 
@@ -152,6 +166,9 @@ module _ (F : List ℕ → List ℕ) (F16 : (m : List ℕ) → length (F m) ≡ 
         attempts-cut = λ xs i block ranges v l s p. lawful-more xs (attempting i block ranges (cut v)) l p (λ f. s);
         splits = λ xs i block ranges puts l s h.
             lawful-more xs (splitting i block ranges puts) l (λ w. goes-through (here xs) i block ranges puts w (h w)) (λ f. s);
+        splits-in-turn = λ xs i block ranges us l s order.
+            lawful-more xs (splitting i block ranges (returned F (here xs).anchor (here xs).card i block ranges us)) l
+            (in-turn (here xs) i block ranges us order) (λ f. s);
         settled-none = settled-none;
         settled-recovered = settled-recovered;
         settled-attempt = λ xs i block ranges s. settled-more xs (attempting i block ranges whole) s (λ c. c);

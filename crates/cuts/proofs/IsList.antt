@@ -14,7 +14,7 @@ use Rattle.replay.proofs.Theorem.{demand3-any, unforged-any, nonces-any}
 use Rattle.cuts.specs.Media.{Media}
 use Rattle.cuts.specs.World.{Ending, Item, attempting, World, tried, next_world, steps, begins, Possible, before, Lawful}
 use Rattle.cuts.specs.Claim.{ByRoot, IsList}
-use Rattle.cuts.proofs.Arrivals.{placed, placed-is, arrives, root-of}
+use Rattle.cuts.proofs.Arrivals.{held, placed, placed-is, arrives, root-of}
 use Rattle.cuts.proofs.Chip.{known-is, chip-after, all-complete, chip-at}
 
 module _ (F : List ℕ → List ℕ) (F16 : (m : List ℕ) → length (F m) ≡ 16) where
@@ -26,7 +26,7 @@ module _ (F : List ℕ → List ℕ) (F16 : (m : List ℕ) → length (F m) ≡ 
 
     rooted : (s : State) (journal card : List ℕ) → Rooted (placed s journal card)
     rooted s journal card p w =
-        let m : Media = record { anchor = s.store.anchor; journal = journal; card = card } in
+        let m : Media = held s journal card in
         let k = arrives F F16 s journal card i block ranges w e p in
         subst (λ (v : World). ByRoot (placed s journal card) v (tried F m i block ranges) i block) (sym k.is)
         (root-of F F16 s journal card i block ranges w k.fate k.media k.shown)

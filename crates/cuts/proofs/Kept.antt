@@ -12,7 +12,8 @@ use Rattle.replay.specs.Places.{Place, Behind}
 use Rattle.replay.specs.Run.{State, after}
 use Rattle.replay.proofs.PlaceLaws.{first, later}
 use Rattle.cuts.specs.Media.{Media}
-use Rattle.cuts.specs.World.{Ending, whole, Item, attempting, recovering, calling, splitting, World, tried, media_after, next_world, world_after}
+use Rattle.cuts.specs.World.{Ending, whole, Item, attempting, recovering, calling, splitting, World, tried, media_after, next_world}
+use Rattle.cuts.specs.World.{world_after}
 use Rattle.cuts.specs.World.{Settled, Possible, Lawful}
 use Rattle.cuts.specs.Claim.{IsRecovery, Shows, Restores, Kept, Forgery, Recovers}
 use Rattle.cuts.proofs.Attempts.{Inv}
@@ -30,7 +31,8 @@ module _ (F : List ℕ → List ℕ) (F16 : (m : List ℕ) → length (F m) ≡ 
   recoveries-still (calling c ∷ xs) w all = absurd (all (first (calling c) xs))
   recoveries-still (splitting i block ranges puts ∷ xs) w all = absurd (all (first (splitting i block ranges puts) xs))
 
-  module _ (w₀ : World) (xs : List Item) (chip : Chip F F16 w₀) (possible : AllPossible F F16 w₀ xs) (here : HereFrom F F16 false w₀ xs) where
+  module _ (w₀ : World) (xs : List Item) (chip : Chip F F16 w₀) (possible : AllPossible F F16 w₀ xs)
+      (here : HereFrom F F16 false w₀ xs) where
     at : (p : Place xs) (x : Item) → p.item ≡ x → Here F F16 (all_open false p.before) (world_after F w₀ p.before) x
     at p x e = subst (Here F F16 (all_open false p.before) (world_after F w₀ p.before)) e (here p)
 

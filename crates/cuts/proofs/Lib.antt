@@ -18,3 +18,5 @@ pub mod Forged
 pub mod ListLaws
 pub mod Going
 pub mod Theorem
+pub mod Computed
+pub mod ComputedLawful

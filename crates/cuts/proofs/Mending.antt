@@ -65,7 +65,8 @@ module _ (F : List ℕ → List ℕ) (s : State) where
     pub right : F (message_of s.store.anchor.depth journal) ≡ tag_of s.store.anchor.depth journal
     pub untagged : Memᴰ (message_of s.store.anchor.depth journal) s.tagged → ⊥
 
-  module _ (sound : Sound s.store.anchor s.store.left) (journal card : List ℕ) (long : length journal ≡ journal_length s.store.anchor.depth) where
+  module _ (sound : Sound s.store.anchor s.store.left) (journal card : List ℕ)
+      (long : length journal ≡ journal_length s.store.anchor.depth) where
     abbrev n : ℕ
     n = s.store.anchor.depth
 

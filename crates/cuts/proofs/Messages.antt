@@ -118,7 +118,8 @@ module _ (F : List ℕ → List ℕ) (F16 : (m : List ℕ) → length (F m) ≡ 
     both-short c e j b p q m (inr k) =
         inr (subst (λ (l : ℕ). JournalTags F a card l block m) p (subst (λ (l : List ℕ). JournalTags F a card j l m) q k))
 
-  step-short : (x : Step) (i : ℕ) (block ranges : List ℕ) → call_of x ≡ write i block ranges → Writes s.store.anchor (card_of x) i block ranges
+  step-short : (x : Step) (i : ℕ) (block ranges : List ℕ) → call_of x ≡ write i block ranges
+      → Writes s.store.anchor (card_of x) i block ranges
       → (m : List ℕ) → StepTags F s.store.anchor x m → (length m ≤ 73) ⊎ JournalTags F s.store.anchor (card_of x) i block m
   step-short (call card c) i block ranges e ok m k = inl (call-short card i block ranges ok c e m k)
   step-short (split card j b l puts) i block ranges e ok m k = inl (call-short card i block ranges ok (write j b l) e m k)

@@ -21,12 +21,12 @@ use Rattle.cuts.specs.Media.{Media}
 use Rattle.cuts.specs.World.{calling, splitting, World, left_by, media_after}
 use Rattle.cuts.specs.World.{next_world, Possible}
 use Rattle.cuts.proofs.Known.{Core, core-next}
-use Rattle.cuts.proofs.Arrivals.{placed}
+use Rattle.cuts.proofs.Arrivals.{held, placed}
 use Rattle.cuts.proofs.Attempts.{open_after, Inv}
 
 module _ (F : List ℕ → List ℕ) (F16 : (m : List ℕ) → length (F m) ≡ 16) (s : State) (journal card : List ℕ) where
   abbrev m : Media
-  m = record { anchor = s.store.anchor; journal = journal; card = card }
+  m = held s journal card
 
   abbrev a : Anchor
   a = s.store.anchor
@@ -51,35 +51,35 @@ module _ (F : List ℕ → List ℕ) (F16 : (m : List ℕ) → length (F m) ≡ 
 
   -- a refused call leaves anchor and card
   settled-same : (o : Answer) (c : Call) → (o ≡ Whole → ⊥)
-      → left_by (record { anchor = s.store.anchor; journal = journal; card = card }) (settled F o s.store.anchor card c)
-      ≡ record { anchor = s.store.anchor; journal = journal; card = card }
+      → left_by (held s journal card) (settled F o s.store.anchor card c)
+      ≡ held s journal card
   settled-same Whole c d = absurd (d refl)
   settled-same (Wrong u) c d = refl
   settled-same (Refused r) c d = refl
 
   outcome-same : (c : Call) → ((outcome F s.store.anchor card c).answer ≡ Whole → ⊥)
-      → left_by (record { anchor = s.store.anchor; journal = journal; card = card }) (outcome F s.store.anchor card c)
-      ≡ record { anchor = s.store.anchor; journal = journal; card = card }
+      → left_by (held s journal card) (outcome F s.store.anchor card c)
+      ≡ held s journal card
   unfolding outcome
   outcome-same c d = settled-same (answer_of F a card c) c (λ e. d (outcome-answer F a card c ∙ e))
 
   -- and so does one that only looks
   looks-same : (c : Call) → renews c ≡ false
-      → left_by (record { anchor = s.store.anchor; journal = journal; card = card }) (outcome F s.store.anchor card c)
-      ≡ record { anchor = s.store.anchor; journal = journal; card = card }
+      → left_by (held s journal card) (outcome F s.store.anchor card c)
+      ≡ held s journal card
   unfolding outcome
   looks-same (read i buffer) e = go (answer_of F a card (read i buffer))
     where
-      go : (o : Answer) → left_by (record { anchor = s.store.anchor; journal = journal; card = card })
-          (settled F o s.store.anchor card (read i buffer)) ≡ record { anchor = s.store.anchor; journal = journal; card = card }
+      go : (o : Answer) → left_by (held s journal card)
+          (settled F o s.store.anchor card (read i buffer)) ≡ held s journal card
       go Whole = refl
       go (Wrong u) = refl
       go (Refused r) = refl
   looks-same (write i block ranges) e = cc
   looks-same check e = go (answer_of F a card check)
     where
-      go : (o : Answer) → left_by (record { anchor = s.store.anchor; journal = journal; card = card })
-          (settled F o s.store.anchor card check) ≡ record { anchor = s.store.anchor; journal = journal; card = card }
+      go : (o : Answer) → left_by (held s journal card)
+          (settled F o s.store.anchor card check) ≡ held s journal card
       go Whole = refl
       go (Wrong u) = refl
       go (Refused r) = refl
@@ -96,7 +96,7 @@ module _ (F : List ℕ → List ℕ) (F16 : (m : List ℕ) → length (F m) ≡ 
           let z : false ≡ true = sym e ∙ ap (λ (x : Step). renews (call_of x)) i in absurd cc
 
   -- what changes neither media nor what is known
-  still-keeps : {b : Bool} (v : Media) (z : State) → v ≡ record { anchor = s.store.anchor; journal = journal; card = card } → z ≡ s
+  still-keeps : {b : Bool} (v : Media) (z : State) → v ≡ held s journal card → z ≡ s
       → Inv F F16 b (placed s journal card) → Inv F F16 b (record { media = v; known = z })
   still-keeps {b} v z p q inv =
       subst (λ (u : Media). Inv F F16 b (record { media = u; known = z })) (sym p)
@@ -119,7 +119,7 @@ module _ (F : List ℕ → List ℕ) (F16 : (m : List ℕ) → length (F m) ≡ 
       go false r = still-keeps (left_by m (outcome F a card c)) (next F s (call card c)) (looks-same c r) (looks-still c r) inv
 
   pub split-keeps : (b : Bool) (i : ℕ) (block ranges : List ℕ) (puts : List PutStep) → Inv F F16 b (placed s journal card) → b ≡ false
-      → Possible F (record { anchor = s.store.anchor; journal = journal; card = card }) (splitting i block ranges puts)
+      → Possible F (held s journal card) (splitting i block ranges puts)
       → Inv F F16 (open_after b (splitting i block ranges puts)) (next_world F (placed s journal card) (splitting i block ranges puts))
   unfolding open_after next_world media_after after
   split-keeps b i block ranges puts inv closed possible =
@@ -129,7 +129,8 @@ module _ (F : List ℕ → List ℕ) (F16 : (m : List ℕ) → length (F m) ≡ 
       stood-keeps b x inv.core inv.long (λ e f. g.right) (inv.rest closed, g.untouched)
       (ap₂ (λ (p q : Bool). p && q) (ap is_whole w) g.filled) refl)
       (λ (d : o.call.answer ≡ Whole → ⊥).
-      still-keeps (left_by m (split_outcome o puts)) (next F s x) (refused-same d) (step-refused F s x (λ e. d (sym (split-answer o puts) ∙ e))) inv)
+      still-keeps (left_by m (split_outcome o puts)) (next F s x) (refused-same d)
+      (step-refused F s x (λ e. d (sym (split-answer o puts) ∙ e))) inv)
       (whole-or-not F F16 s o.call.answer)
     where
       o : Planned

@@ -19,12 +19,13 @@ use Rattle.replay.proofs.PlaceLaws.{first, later}
 use Rattle.replay.proofs.Moves.{whole-or-not, not-whole}
 use Rattle.replay.proofs.Unforged.{kept}
 use Rattle.cuts.specs.Media.{Media, fate_of}
-use Rattle.cuts.specs.World.{Ending, whole, cut, Item, attempting, recovering, calling, splitting, World, ended, left_by, tried, recovery, media_after}
+use Rattle.cuts.specs.World.{Ending, whole, cut, Item, attempting, recovering, calling, splitting, World, ended, left_by, tried, recovery}
+use Rattle.cuts.specs.World.{media_after}
 use Rattle.cuts.specs.World.{steps_of, next_world, world_after, Possible}
 use Rattle.cuts.specs.NotEmpty.{new_card, new_journal, Shown}
 use Rattle.cuts.proofs.CutLaws.{tried-is, tried-ok, card-full}
 use Rattle.cuts.proofs.RecoveryLaws.{recovery-cuts}
-use Rattle.cuts.proofs.Arrivals.{placed, placed-is, cut-is, cut-shown, refused-is, behind, whole-is, lost-move, stood-move}
+use Rattle.cuts.proofs.Arrivals.{held, placed, placed-is, cut-is, cut-shown, refused-is, behind, whole-is, lost-move, stood-move}
 use Rattle.cuts.proofs.Chip.{Chip, AllPossible, chip-next}
 
 module _ (F : List ℕ → List ℕ) (F16 : (m : List ℕ) → length (F m) ≡ 16) (n : ℕ) where
@@ -44,7 +45,7 @@ module _ (F : List ℕ → List ℕ) (F16 : (m : List ℕ) → length (F m) ≡ 
 
   module _ (s : State) (journal card : List ℕ) (deep : s.store.anchor.depth ≡ n) where
     abbrev m : Media
-    m = record { anchor = s.store.anchor; journal = journal; card = card }
+    m = held s journal card
 
     next-journal : (x : Item) → (next_world F (placed s journal card) x).media.journal ≡ (media_after F m x).journal
     unfolding next_world
@@ -54,7 +55,8 @@ module _ (F : List ℕ → List ℕ) (F16 : (m : List ℕ) → length (F m) ≡ 
     unfolding media_after
     call-journal c = refl
 
-    split-journal : (i : ℕ) (block ranges : List ℕ) (puts : List PutStep) → (media_after F m (splitting i block ranges puts)).journal ≡ journal
+    split-journal : (i : ℕ) (block ranges : List ℕ) (puts : List PutStep)
+        → (media_after F m (splitting i block ranges puts)).journal ≡ journal
     unfolding media_after
     split-journal i block ranges puts = refl
 
@@ -66,7 +68,8 @@ module _ (F : List ℕ → List ℕ) (F16 : (m : List ℕ) → length (F m) ≡ 
 
     -- an attempt
 
-    module _ (i : ℕ) (block ranges : List ℕ) (w : (tried F (record { anchor = s.store.anchor; journal = journal; card = card }) i block ranges).call.answer ≡ Whole) where
+    module _ (i : ℕ) (block ranges : List ℕ)
+        (w : (tried F (held s journal card) i block ranges).call.answer ≡ Whole) where
       abbrev message : List ℕ
       message = journal_message s.store.anchor.depth (s.store.anchor.reserved.0 + s.store.anchor.depth) i (new_card F m i block)
 
@@ -74,7 +77,8 @@ module _ (F : List ℕ → List ℕ) (F16 : (m : List ℕ) → length (F m) ≡ 
       has-message =
           let ok = tried-ok F F16 m i block ranges w in
           ap (λ (k : ℕ). message_of k (new_journal F m i block)) (sym deep)
-          ∙ own-message s.store.anchor.depth (s.store.anchor.reserved.0 + s.store.anchor.depth) i (new_card F m i block) ok.inside ok.sound.deep
+          ∙ own-message s.store.anchor.depth (s.store.anchor.reserved.0 + s.store.anchor.depth) i (new_card F m i block) ok.inside
+          ok.sound.deep
           (card-full F F16 m i block ranges w) F
 
       lost-mine : (j : List ℕ) → j ≡ new_journal F m i block → Mine j (behind F F16 s journal card i block ranges lost m).known

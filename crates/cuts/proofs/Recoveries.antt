@@ -20,12 +20,12 @@ use Rattle.cuts.proofs.Mending.{Fine, Fake, consult}
 use Rattle.cuts.proofs.CutLaws.{of-beside}
 use Rattle.cuts.proofs.RecoveryLaws.{recovery-cuts}
 use Rattle.cuts.proofs.Known.{Core, core-sound, served}
-use Rattle.cuts.proofs.Arrivals.{placed}
+use Rattle.cuts.proofs.Arrivals.{held, placed}
 use Rattle.cuts.proofs.Attempts.{open_after, Inv}
 
 module _ (F : List ℕ → List ℕ) (F16 : (m : List ℕ) → length (F m) ≡ 16) (s : State) (journal card : List ℕ) where
   abbrev m : Media
-  m = record { anchor = s.store.anchor; journal = journal; card = card }
+  m = held s journal card
 
   abbrev a : Anchor
   a = s.store.anchor
@@ -66,7 +66,7 @@ module _ (F : List ℕ → List ℕ) (F16 : (m : List ℕ) → length (F m) ≡ 
     behind e v p = ap (λ (z : Media). let w : World = record { media = z; known = s } in w) p
 
     pub recovery-keeps : (b : Bool) (e : Ending) → Inv F F16 b (placed s journal card)
-        → Possible F (record { anchor = s.store.anchor; journal = journal; card = card }) (recovering e)
+        → Possible F (held s journal card) (recovering e)
         → Inv F F16 (open_after b (recovering e)) (next_world F (placed s journal card) (recovering e))
     unfolding open_after
     recovery-keeps b whole inv possible =

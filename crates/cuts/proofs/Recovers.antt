@@ -14,7 +14,8 @@ use Rattle.replay.specs.Run.{unheard, Step, call, split, attempt, card_of, told,
 use Rattle.replay.specs.Claim.{Agrees}
 use Rattle.replay.proofs.PlaceLaws.{first, later, no_place, at_places}
 use Rattle.replay.proofs.Moves.{split-answer}
-use Rattle.cuts.specs.World.{Ending, whole, cut, Item, attempting, recovering, calling, splitting, World, tried, laid_out, next_world, world_after}
+use Rattle.cuts.specs.World.{Ending, whole, cut, Item, attempting, recovering, calling, splitting, World, tried, laid_out, next_world}
+use Rattle.cuts.specs.World.{world_after}
 use Rattle.cuts.specs.World.{Writes, Finished, Settled, Possible, Lawful}
 use Rattle.cuts.specs.Claim.{Serves, IsRecovery, Restores, ForgedJournal, Forgery}
 use Rattle.cuts.proofs.Mending.{Fine}
@@ -42,16 +43,21 @@ unfolding all_open open_after
 settled-closed [] true f s = absurd (no_place (f refl).place)
 settled-closed [] false f s = refl
 settled-closed (attempting i block ranges whole ∷ xs) b f s =
-    settled-closed xs b (λ e. finished-later (attempting i block ranges whole) xs (λ z. cc) (f e)) (settled-later (attempting i block ranges whole) xs s)
+    settled-closed xs b (λ e. finished-later (attempting i block ranges whole) xs (λ z. cc) (f e))
+    (settled-later (attempting i block ranges whole) xs s)
 settled-closed (attempting i block ranges (cut v) ∷ xs) b f s =
-    settled-closed xs true (λ e. s (first (attempting i block ranges (cut v)) xs) tt) (settled-later (attempting i block ranges (cut v)) xs s)
+    settled-closed xs true (λ e. s (first (attempting i block ranges (cut v)) xs) tt)
+    (settled-later (attempting i block ranges (cut v)) xs s)
 settled-closed (recovering whole ∷ xs) b f s = settled-closed xs false (λ e. cc) (settled-later (recovering whole) xs s)
 settled-closed (recovering (cut v) ∷ xs) b f s =
-    settled-closed xs true (λ e. s (first (recovering (cut v)) xs) tt) (settled-later (recovering (cut v)) xs s)
+    settled-closed xs true (λ e. s (first (recovering (cut v)) xs) tt)
+    (settled-later (recovering (cut v)) xs s)
 settled-closed (calling c ∷ xs) b f s =
-    settled-closed xs b (λ e. finished-later (calling c) xs (λ z. cc) (f e)) (settled-later (calling c) xs s)
+    settled-closed xs b (λ e. finished-later (calling c) xs (λ z. cc) (f e))
+    (settled-later (calling c) xs s)
 settled-closed (splitting i block ranges puts ∷ xs) b f s =
-    settled-closed xs b (λ e. finished-later (splitting i block ranges puts) xs (λ z. cc) (f e)) (settled-later (splitting i block ranges puts) xs s)
+    settled-closed xs b (λ e. finished-later (splitting i block ranges puts) xs (λ z. cc) (f e))
+    (settled-later (splitting i block ranges puts) xs s)
 
 module _ (F : List ℕ → List ℕ) (F16 : (m : List ℕ) → length (F m) ≡ 16) where
   -- What is claimed of an item, where a cut may be open before it

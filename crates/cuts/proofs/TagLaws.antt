@@ -18,7 +18,7 @@ use Rattle.cuts.specs.Media.{Media}
 use Rattle.cuts.specs.World.{Ending, Item, attempting, World, tried, steps, next_world, world_after, Possible, before}
 use Rattle.cuts.specs.NotEmpty.{Shown, Tags}
 use Rattle.cuts.proofs.CutLaws.{tried-ok}
-use Rattle.cuts.proofs.Arrivals.{placed, placed-is, arrives, refused-is, behind, lost-move, stood-move, unheard-still}
+use Rattle.cuts.proofs.Arrivals.{held, placed, placed-is, arrives, refused-is, behind, lost-move, stood-move, unheard-still}
 use Rattle.cuts.proofs.Chip.{Chip, known-is, world-append, AllPossible, chip-at}
 
 module _ (F : List ℕ → List ℕ) where
@@ -57,9 +57,9 @@ module _ (F : List ℕ → List ℕ) where
 
     module _ (s : State) (journal card : List ℕ) where
       abbrev m : Media
-      m = record { anchor = s.store.anchor; journal = journal; card = card }
+      m = held s journal card
 
-      module _ (w : (tried F (record { anchor = s.store.anchor; journal = journal; card = card }) i block ranges).call.answer ≡ Whole) where
+      module _ (w : (tried F (held s journal card) i block ranges).call.answer ≡ Whole) where
         by-fate : (fate : Fate) (v : Media) → Shown F m i block fate v
             → v.anchor.reserved.0 ≡ s.store.anchor.reserved.0 + s.store.anchor.depth → (t : List ℕ)
             → CallTags s.store.anchor card (write i block ranges) t ⊎ JournalTags F s.store.anchor card i block t
@@ -116,25 +116,25 @@ module _ (F : List ℕ → List ℕ) where
     refused-still : (w : World) → Chip F F16 w → RefusedStill w
     refused-still w c = subst RefusedStill (placed-is w c) (refused-placed w.known w.media.journal w.media.card)
 
-  module _ (F16 : (m : List ℕ) → length (F m) ≡ 16) (w₀ : World) (xs : List Item) (chip : Chip F F16 w₀) (possible : AllPossible F F16 w₀ xs)
-    where
-      pub tags : Tags F w₀ xs
-      tags =
-          record {
-            raised-tagged = λ p i block ranges e is w r t k.
-                let z = before F w₀ p in
-                let c = chip-at F F16 xs w₀ chip possible p in
-                kept-place w₀ p t
-                (subst (λ (x : Item). Memᴰ t (next_world F z x).known.tagged) (sym is)
-                (raised-tagged F16 i block ranges e z c (subst (Possible F z.media) is (possible p)) w
-                (ap (λ (x : Item). (next_world F z x).media.anchor.reserved.0) (sym is) ∙ r) t k));
-            old-still = λ p i block ranges e is r.
-                let z = before F w₀ p in
-                let c = chip-at F F16 xs w₀ chip possible p in
-                ap (λ (x : Item). (next_world F z x).known) is
-                ∙ old-still F16 i block ranges e z c (subst (Possible F z.media) is (possible p))
-                (ap (λ (x : Item). (next_world F z x).media.anchor.reserved.0) (sym is) ∙ r);
-            refused-still = λ p i block ranges e is d.
-                let z = before F w₀ p in
-                ap (next_world F z) is ∙ refused-still F16 i block ranges e z (chip-at F F16 xs w₀ chip possible p) d;
-          }
+  module _ (F16 : (m : List ℕ) → length (F m) ≡ 16) (w₀ : World) (xs : List Item) (chip : Chip F F16 w₀)
+      (possible : AllPossible F F16 w₀ xs) where
+    pub tags : Tags F w₀ xs
+    tags =
+        record {
+          raised-tagged = λ p i block ranges e is w r t k.
+              let z = before F w₀ p in
+              let c = chip-at F F16 xs w₀ chip possible p in
+              kept-place w₀ p t
+              (subst (λ (x : Item). Memᴰ t (next_world F z x).known.tagged) (sym is)
+              (raised-tagged F16 i block ranges e z c (subst (Possible F z.media) is (possible p)) w
+              (ap (λ (x : Item). (next_world F z x).media.anchor.reserved.0) (sym is) ∙ r) t k));
+          old-still = λ p i block ranges e is r.
+              let z = before F w₀ p in
+              let c = chip-at F F16 xs w₀ chip possible p in
+              ap (λ (x : Item). (next_world F z x).known) is
+              ∙ old-still F16 i block ranges e z c (subst (Possible F z.media) is (possible p))
+              (ap (λ (x : Item). (next_world F z x).media.anchor.reserved.0) (sym is) ∙ r);
+          refused-still = λ p i block ranges e is d.
+              let z = before F w₀ p in
+              ap (next_world F z) is ∙ refused-still F16 i block ranges e z (chip-at F F16 xs w₀ chip possible p) d;
+        }

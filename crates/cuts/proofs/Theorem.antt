@@ -28,7 +28,10 @@ pub begins-any : (F : List ℕ → List ℕ) (key : List ℕ) (n : ℕ) → 1 �
 unfolding begins format
 begins-any F key n deep shallow card full journal =
     record {
-      media = ap (λ (o : Answer). let m : Media = record { anchor = formatted key n; journal = journal; card = format_card F o n card } in m)
+      media = ap
+          (λ (o : Answer).
+          let m : Media = record { anchor = formatted key n; journal = journal; card = format_card F o n card } in
+          m)
           (format-accept n card deep shallow full);
       known = refl;
     }

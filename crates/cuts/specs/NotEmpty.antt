@@ -11,6 +11,8 @@ use Rattle.journal.specs.Journal.{scattered, message_of, tag_of, new_bytes, jour
 use Rattle.journal.specs.Recovery.{pending}
 use Rattle.plan.specs.Split.{Given, planned}
 use Rattle.plan.specs.Puts.{PutStep, begun, after_all_puts}
+use Rattle.plan.specs.Places.{plan_nodes}
+use Rattle.plan.specs.Orders.{Rearranged, returned}
 use Rattle.plan.specs.Rule.{Waits}
 use Rattle.replay.specs.Places.{Place}
 use Rattle.replay.specs.Run.{Fate, unheard, lost, stood, Step, call, split, attempt, start}
@@ -180,10 +182,16 @@ module _ (F : List ℕ → List ℕ) (w₀ : World) where
         → (p.item.card ≡ g.left) × ((k : Given) → Memᴰ k o.messages → k.node ≡ p.item.node → p.item.tag ≡ F k.message))
         × ((u : ℕ) → Waits m.anchor.depth (after_all_puts (begun o) puts).plan u → ⊥))
         → Lawful F w₀ (xs ++ (splitting i block ranges puts ∷ []))
+    -- so its tags may come back in any order
+    pub splits-in-turn : (xs : List Item) (i : ℕ) (block ranges us : List ℕ) → Lawful F w₀ xs → Settled xs →
+        let m = (world_after F w₀ xs).media in
+        Rearranged us (plan_nodes m.anchor.depth i)
+        → Lawful F w₀ (xs ++ (splitting i block ranges (returned F m.anchor m.card i block ranges us) ∷ []))
     -- no cut is open at first, behind a finished recovery, and where none was and nothing is cut
     pub settled-none : Settled []
     pub settled-recovered : (xs : List Item) → Settled (xs ++ (recovering whole ∷ []))
-    pub settled-attempt : (xs : List Item) (i : ℕ) (block ranges : List ℕ) → Settled xs → Settled (xs ++ (attempting i block ranges whole ∷ []))
+    pub settled-attempt : (xs : List Item) (i : ℕ) (block ranges : List ℕ) → Settled xs
+        → Settled (xs ++ (attempting i block ranges whole ∷ []))
     pub settled-call : (xs : List Item) (c : Call) → Settled xs → Settled (xs ++ (calling c ∷ []))
     pub settled-split : (xs : List Item) (i : ℕ) (block ranges : List ℕ) (puts : List PutStep) → Settled xs
         → Settled (xs ++ (splitting i block ranges puts ∷ []))
