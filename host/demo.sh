@@ -1,23 +1,31 @@
 #!/bin/sh
-# Shows the tool at work on a card image, and what it says of a card with old nodes among new ones, and of one from before a wipe.
-#   demo.sh ROUNDCARD
+# Shows the tool at work on a card image: what it says of a card with old nodes among new ones, and of one from before a wipe, and
+# what is left when the power fails in the middle of a write.
+#   demo.sh ROUNDCARD FAULTS      FAULTS is loaded before the tool to end it at a system call
 set -eu
-tool=$(cd "$(dirname "$1")" && pwd)/$(basename "$1")
+whole() { echo "$(cd "$(dirname "$1")" && pwd)/$(basename "$1")"; }
+tool=$(whole "$1")
+faults=$(whole "$2")
 room=$(mktemp -d)
 trap 'rm -rf "$room"' EXIT
 cd "$room"
 
 say() { printf '\n# %s\n' "$*"; }
 
-# Shows a command and runs it, and ends the demonstration if its status is not the one expected.
-run() {
-    expected=$1
-    shift
+# Shows a command.
+show() {
     printf '$ roundcard'
     for word in "$@"; do
         case $word in *' '*) printf " '%s'" "$word" ;; *) printf ' %s' "$word" ;; esac
     done
     printf '\n'
+}
+
+# Shows a command and runs it, and ends the demonstration if its status is not the one expected.
+run() {
+    expected=$1
+    shift
+    show "$@"
     status=0
     "$tool" "$@" >out 2>&1 || status=$?
     cat out
@@ -25,6 +33,21 @@ run() {
         echo "NOT AS EXPECTED: status $status, and not $expected" >&2
         exit 1
     fi
+}
+
+# Pulls the plug on a command, before the call of that name that has that number.
+unplug() {
+    fault=$1
+    shift
+    show "$@"
+    status=0
+    LD_PRELOAD=$faults FAULT=$fault:cut "$tool" "$@" >out 2>&1 || status=$?
+    cat out
+    echo '    ... and the power is gone'
+    [ "$status" -eq 99 ] || {
+        echo "NOT AS EXPECTED: status $status" >&2
+        exit 1
+    }
 }
 
 # Ends the demonstration if the last command did not say this.
@@ -51,6 +74,28 @@ run 0 read --text box.anchor box.card 5
 said 'van 7: round 12, Old Mill'
 run 0 check box.anchor box.card
 
+say 'A driver switches the box off in the middle of a write. It goes out in four steps: the anchor with
+# H raised, a journal, the anchor with the new T, the ranges of the card. Here three ranges are out.'
+unplug pwrite:4 write --text 'van 2: round 4, Quayside' box.anchor box.card 1
+run 8 read --text box.anchor box.card 1
+said "'roundcard recover' puts its bytes in their places, and mends it"
+
+say 'Nothing is lost: the new T stands, so the journal has the write, and a recovery finishes it.'
+run 0 recover box.anchor box.card
+said 'the bytes of the last write are put in their places'
+run 0 read --text box.anchor box.card 1
+said 'van 2: round 4, Quayside'
+run 0 check box.anchor box.card
+
+say 'The plug is pulled earlier, before the new T stands: the card is as it was, and H alone is raised.'
+unplug rename:3 write --text 'van 9: round 1, Nowhere' box.anchor box.card 1
+run 0 read --text box.anchor box.card 1
+said 'van 2: round 4, Quayside'
+run 0 recover box.anchor box.card
+said 'write the block again'
+run 0 show box.anchor
+said 'reserved H    12: an attempt after the last change was lost'
+
 say 'Somebody copies the card. Later the round in block 5 changes.'
 echo '$ cp box.card old.card'
 cp box.card old.card
@@ -71,7 +116,7 @@ say 'Blocks whose path does not meet those nodes are still read; a check of all 
 run 8 check --all box.anchor box.card
 said '....##..'
 run 0 read --text box.anchor box.card 1
-said 'van 2: round 4, Harbour'
+said 'van 2: round 4, Quayside'
 
 say 'The whole old card does no better: both children of the root change with every write.'
 cp old.card box.card
@@ -84,7 +129,7 @@ run 0 read --text box.anchor box.card 5
 said 'van 3: round 12, Old Mill'
 run 0 check box.anchor box.card
 run 0 show box.anchor box.card
-said 'changes made  3'
+said 'changes made  5'
 
 say 'The season is over: a wipe empties the card, under the same key. Without --yes it asks first, on a terminal.'
 run 0 wipe --yes box.anchor box.card

@@ -1,6 +1,6 @@
 // A box with four cipher engines, here POSIX threads. A write is planned, the engines make its
 // tags, each in its own time, and each tag is put on the card as it comes. Some rounds are written
-// so, and the last one is read back.
+// so, one plan is left unfinished, and the last round is read back.
 #define _POSIX_C_SOURCE 200809L
 #include <pat.h>
 
@@ -11,7 +11,7 @@
 #include <string.h>
 #include <time.h>
 
-enum { ENGINES = 4, AES_BLOCK = 16, ROUNDS = 10, MOST_JOBS = 4 * PAT_MAX_DEPTH };
+enum { ENGINES = 4, AES_BLOCK = 16, ROUNDS = 10, MOST_JOBS = 8 * PAT_MAX_DEPTH };
 
 // What an engine has in hardware: AES-128 of FIPS 197 and the CMAC of RFC 4493, under one key.
 struct cipher {
@@ -130,17 +130,18 @@ static bool is_right(void) {
 }
 
 // A message on its way to an engine, and its tag on the way back, which is known by its plan and
-// its node. Without a cipher: the engine stops.
+// its node. The engine has the message's bytes: those of a plan that is left may go before it reads
+// them. Without a cipher: the engine stops.
 struct job {
     const struct cipher *cipher;
-    const uint8_t *message;
+    uint8_t message[PAT_BLOCK_BYTES + 9];
     size_t length;
     uint64_t plan, node;
     uint8_t tag[PAT_TAG_BYTES];
     unsigned aes_calls;
 };
 
-// It has room for the jobs of a plan and for as many that come late.
+// It has room for the jobs of a plan, and for three times as many that come late.
 struct queue {
     pthread_mutex_t lock;
     pthread_cond_t filled;
@@ -217,10 +218,10 @@ static void switch_off(void) {
         pthread_join(engines[k], NULL);
 }
 
-// What the host has: a card in memory, its anchor, the ranges of the last write, and how many plans
-// it made.
+// What the host has: a card in memory, its anchor, the anchor that the chip keeps when the power is
+// gone, the ranges of the last write, and how many plans it made.
 struct store {
-    uint8_t anchor[PAT_ANCHOR_BYTES], ranges[PAT_MAX_RANGE_BYTES];
+    uint8_t anchor[PAT_ANCHOR_BYTES], kept[PAT_ANCHOR_BYTES], ranges[PAT_MAX_RANGE_BYTES];
     uint8_t *card;
     size_t card_len;
     uint64_t plans;
@@ -232,8 +233,8 @@ struct work {
     bool out_of_order;
 };
 
-// Ends the program where a call is refused. Nothing was stored since the plan, so that anchor and
-// card outside are still those of before.
+// Ends the program where a call is refused. Of the plan nothing was stored but H, so that the card
+// outside is still the one of before and goes with the anchor that is kept.
 static void must(uint64_t answer, const char *what, uint64_t number) {
     if (answer == PAT_ACCEPTED)
         return;
@@ -245,27 +246,42 @@ static void must(uint64_t answer, const char *what, uint64_t number) {
     exit(1);
 }
 
-// The split write. What it leaves in the store is to be stored as after pat_write: the anchor, and
-// then the ranges. It waits for every tag: a host whose engines can fail gives the plan up after a
-// time, and goes on with the anchor and the card of before.
-static struct work write_by_engines(struct store *s, const struct cipher *cipher, uint64_t index,
-                                    const uint8_t block[PAT_BLOCK_BYTES]) {
-    uint8_t plan[PAT_PLAN_BYTES], messages[PAT_MESSAGES_BYTES];
-    uint64_t depth = pat_get_number(s->anchor + PAT_ANCHOR_DEPTH), last = 0;
-    struct work work = {0, false};
+static void keep_anchor(struct store *s) {
+    memcpy(s->kept, s->anchor, sizeof s->kept);
+}
+
+// Plans a write and sends its messages to the engines, once the anchor with H raised is kept: from
+// then on tags with these nonces may be seen.
+static void send_plan(struct store *s, const struct cipher *cipher, uint64_t index,
+                      const uint8_t block[PAT_BLOCK_BYTES], uint8_t plan[PAT_PLAN_BYTES]) {
+    uint8_t messages[PAT_MESSAGES_BYTES];
+    uint64_t depth = pat_get_number(s->anchor + PAT_ANCHOR_DEPTH);
     must(pat_plan(s->anchor, sizeof s->anchor, s->card, s->card_len, index, block, PAT_BLOCK_BYTES,
-                  s->ranges, sizeof s->ranges, plan, sizeof plan, messages, sizeof messages),
+                  s->ranges, sizeof s->ranges, plan, PAT_PLAN_BYTES, messages, sizeof messages),
          "the plan of block", index);
+    keep_anchor(s);
     s->plans++;
     for (unsigned k = 0; k < PAT_MESSAGES(depth); k++) {
         struct pat_message m = pat_message(depth, index, k);
-        struct job job = {cipher, messages + m.start, m.length, s->plans, m.node, {0}, 0};
+        struct job job = {.cipher = cipher, .length = m.length, .plan = s->plans, .node = m.node};
+        memcpy(job.message, messages + m.start, m.length);
         give(&messages_out, &job);
     }
+}
+
+// The split write. Behind the last put the anchor is kept; the ranges are to be stored now, as
+// after pat_write. It waits for every tag: a host whose engines can fail leaves the plan unfinished
+// after a time.
+static struct work write_by_engines(struct store *s, const struct cipher *cipher, uint64_t index,
+                                    const uint8_t block[PAT_BLOCK_BYTES]) {
+    uint8_t plan[PAT_PLAN_BYTES];
+    uint64_t depth = pat_get_number(s->anchor + PAT_ANCHOR_DEPTH), last = 0;
+    struct work work = {0, false};
+    send_plan(s, cipher, index, block, plan);
     for (unsigned put = 0; put < PAT_MESSAGES(depth);) {
         struct job job = take(&tags_back);
         if (job.plan != s->plans)
-            continue; // late: its plan was given up
+            continue; // late: its plan was left
         uint64_t answer = pat_put_tag(s->anchor, sizeof s->anchor, plan, sizeof plan, s->card,
                                       s->card_len, job.node, job.tag, sizeof job.tag);
         if (answer == PAT_REFUSED_NOT_AWAITED)
@@ -276,28 +292,58 @@ static struct work write_by_engines(struct store *s, const struct cipher *cipher
         work.out_of_order = work.out_of_order || job.node < last;
         last = job.node;
     }
+    keep_anchor(s);
     return work;
+}
+
+// A plan that is left unfinished: no tag is waited for. The host goes on with the anchor that is
+// kept, in which H is raised, and with the card as it was. The tags come late.
+static void leave_plan(struct store *s, const struct cipher *cipher, uint64_t index,
+                       const uint8_t block[PAT_BLOCK_BYTES]) {
+    uint8_t plan[PAT_PLAN_BYTES], *before = malloc(s->card_len);
+    if (before == NULL)
+        exit(2);
+    memcpy(before, s->card, s->card_len);
+    send_plan(s, cipher, index, block, plan);
+    memcpy(s->anchor, s->kept, sizeof s->anchor);
+    memcpy(s->card, before, s->card_len);
+    free(before);
+}
+
+static void tell(const struct store *s, uint64_t index, unsigned aes_calls) {
+    uint64_t depth = pat_get_number(s->anchor + PAT_ANCHOR_DEPTH);
+    printf("block %u: %u tags from %d engines, %u AES calls there and %u in the plan\n"
+           "    the anchor is kept with T = %u; store of the card",
+           (unsigned)index, (unsigned)PAT_MESSAGES(depth), ENGINES, aes_calls,
+           (unsigned)PAT_AES_PLAN(depth), (unsigned)pat_get_number(s->kept + PAT_ANCHOR_ROOT));
+    for (size_t r = 0; r < PAT_RANGES(depth); r++)
+        printf(" %u+%u", (unsigned)pat_range_start(s->ranges, r),
+               (unsigned)pat_range_length(s->ranges, r));
+    putchar('\n');
+}
+
+static void tell_left(const struct store *s, uint64_t index) {
+    printf("block %u: the plan is left unfinished; the anchor is kept with T = %u and H = %u\n",
+           (unsigned)index, (unsigned)pat_get_number(s->kept + PAT_ANCHOR_ROOT),
+           (unsigned)pat_get_number(s->kept + PAT_ANCHOR_RESERVED));
 }
 
 static void write_rounds(void) {
     enum { DEPTH = 3 };
     static const uint64_t blocks[] = {5, 2, 5};
     static uint8_t card[PAT_CARD_BYTES(DEPTH)];
-    struct store s = {"sixteen byte key", {0}, card, sizeof card, 0}; // a product draws its key
-    struct cipher cipher = cipher_of(s.anchor);
+    struct store s = {.anchor = "sixteen byte key", .card = card, .card_len = sizeof card};
+    struct cipher cipher = cipher_of(s.anchor); // a product draws its key
     uint8_t block[PAT_BLOCK_BYTES] = "van 7: round 12", buffer[PAT_BLOCK_BYTES];
     pat_put_number(s.anchor + PAT_ANCHOR_DEPTH, DEPTH);
     must(pat_format(s.anchor, sizeof s.anchor, card, sizeof card), "a card of depth", DEPTH);
     for (unsigned k = 0; k < 3; k++, block[4]++) {
+        if (k == 2) {
+            leave_plan(&s, &cipher, blocks[k], block);
+            tell_left(&s, blocks[k]);
+        }
         struct work work = write_by_engines(&s, &cipher, blocks[k], block);
-        printf("block %u: %u tags from %d engines, %u AES calls there and %u in the plan\n"
-               "    store the anchor with T = %u, then of the card",
-               (unsigned)blocks[k], (unsigned)PAT_MESSAGES(DEPTH), ENGINES, work.aes_calls,
-               (unsigned)PAT_AES_PLAN(DEPTH), (unsigned)pat_get_number(s.anchor + PAT_ANCHOR_ROOT));
-        for (size_t r = 0; r < PAT_RANGES(DEPTH); r++)
-            printf(" %u+%u", (unsigned)pat_range_start(s.ranges, r),
-                   (unsigned)pat_range_length(s.ranges, r));
-        putchar('\n');
+        tell(&s, blocks[k], work.aes_calls);
     }
     must(pat_read(s.anchor, sizeof s.anchor, card, sizeof card, 5, buffer, sizeof buffer),
          "the read of block", 5);

@@ -96,8 +96,8 @@ $(HOST_OUT)/stack: host/tests/stack.c host/pat.h host/host.mk $(PAT_ARCHIVE)
 	@mkdir -p $(@D)
 	$(TEST_BUILD) $< $(PAT_ARCHIVE) -Wl,-z,now -o $@
 
-demo: $(HOST_OUT)/roundcard
-	host/demo.sh $<
+demo: $(HOST_OUT)/roundcard $(HOST_OUT)/faults.so
+	host/demo.sh $^
 
 install: $(HOST_OUT)/roundcard
 	install -d $(DESTDIR)$(BINDIR) $(DESTDIR)$(LIBDIR)/pkgconfig $(DESTDIR)$(INCLUDEDIR)
@@ -141,6 +141,7 @@ host-calls: host-calls-plain host-calls-sanitized host-calls-valgrind
 host-calls-plain: $(HOST_OUT)/calls
 	python3 -B host/tests/known.py | cmp - host/tests/calls/known.h
 	python3 -B host/tests/known_plans.py | cmp - host/tests/calls/known_plans.h
+	python3 -B host/tests/known_journals.py | cmp - host/tests/calls/known_journals.h
 	$(HOST_OUT)/calls
 
 host-calls-sanitized: $(HOST_OUT)/sanitized/calls

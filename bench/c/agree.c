@@ -86,7 +86,7 @@ static void vary(struct state *s) {
     fill(s->ranges, sizeof s->ranges);
     s->index = any((uint64_t)1 << depth);
     s->ranges_len = PAT_RANGE_BYTES(depth) + any(64);
-    switch (any(24)) {
+    switch (any(26)) {
     case 0:
         s->anchor_len = any(PAT_ANCHOR_BYTES + 2);
         break;
@@ -95,6 +95,7 @@ static void vary(struct state *s) {
         break;
     case 2:
         pat_put_number(s->anchor + PAT_ANCHOR_ROOT, UINT64_MAX - any(2 * depth));
+        pat_put_number(s->anchor + PAT_ANCHOR_RESERVED, UINT64_MAX - any(2 * depth));
         break;
     case 3:
         s->card_len = any(sizeof s->card);
@@ -115,10 +116,17 @@ static void vary(struct state *s) {
     case 9:
         s->anchor[any(PAT_ANCHOR_BYTES)] ^= (uint8_t)(1 << any(8));
         break;
+    case 10:
+        pat_put_number(s->anchor + PAT_ANCHOR_RESERVED, UINT64_MAX - any(2 * depth));
+        break;
+    case 11:
+        pat_put_number(s->anchor + PAT_ANCHOR_RESERVED, depth * any(1000));
+        break;
     }
 }
 
-// One call on two copies of the state; an accepted write or wipe under its own anchor carries over.
+// One call on two copies of the state; an accepted write or wipe under its own anchor carries over,
+// or is lost and leaves its reserved nonce alone.
 static unsigned compare(const struct tree_cmac *cmac, struct state *s, enum kind kind) {
     static struct state one, other;
     one = *s;
@@ -132,9 +140,13 @@ static unsigned compare(const struct tree_cmac *cmac, struct state *s, enum kind
                 kind, (unsigned long long)answer, cmac_name, (unsigned long long)expected);
         exit(1);
     }
-    if (answer == 0 && moves && any(4) != 0) {
-        memcpy(s->anchor, one.anchor, sizeof s->anchor);
-        memcpy(s->card, one.card, sizeof s->card);
+    if (answer == 0 && moves) {
+        uint64_t reserved = pat_get_number(one.anchor + PAT_ANCHOR_RESERVED);
+        pat_put_number(s->anchor + PAT_ANCHOR_RESERVED, reserved);
+        if (any(4) != 0) {
+            memcpy(s->anchor, one.anchor, sizeof s->anchor);
+            memcpy(s->card, one.card, sizeof s->card);
+        }
     }
     return pat_refusal(answer);
 }

@@ -8,7 +8,7 @@ enum {
     NONCE_BYTES = 8,
     BLOCK_BYTES = 64,
     TAG_BYTES = 16,
-    ANCHOR_BYTES = 32,
+    ANCHOR_BYTES = 40,
     INNER_BYTES = NONCE_BYTES + TAG_BYTES,
     LEAF_BYTES = BLOCK_BYTES + TAG_BYTES,
     MAX_DEPTH = 16,
@@ -18,6 +18,7 @@ enum {
 struct anchor {
     uint64_t depth;
     uint64_t root;
+    uint64_t reserved;
     const uint8_t *root_label;
 };
 
@@ -41,7 +42,8 @@ static void put_number(uint8_t *bytes, size_t count, uint64_t number) {
 
 static struct anchor parse(const uint8_t *anchor) {
     const uint8_t *numbers = anchor + KEY_BYTES;
-    return (struct anchor){get_number(numbers), get_number(numbers + 8), numbers + 8};
+    return (struct anchor){get_number(numbers), get_number(numbers + 8), get_number(numbers + 16),
+                           numbers + 8};
 }
 
 static size_t leaves(uint64_t depth) {
@@ -87,11 +89,17 @@ static uint64_t wrong(size_t node) {
 static uint64_t common_limits(const struct anchor *a, size_t card_len) {
     if (a->depth == 0 || a->depth > MAX_DEPTH)
         return 1;
-    if (a->root % a->depth != 0)
+    if (a->root % a->depth != 0 || a->reserved % a->depth != 0 || a->reserved < a->root)
         return 2;
     if (card_len != 104 * leaves(a->depth) - 48)
         return 3;
     return 0;
+}
+
+// Puts a nonce into the anchor, as root nonce and as reserved nonce.
+static void put_nonces(uint8_t *anchor, uint64_t nonce) {
+    put_number(anchor + KEY_BYTES + 8, NONCE_BYTES, nonce);
+    put_number(anchor + KEY_BYTES + 16, NONCE_BYTES, nonce);
 }
 
 // An empty card whose nonces are all the anchor's new one, which goes there too.
@@ -99,7 +107,7 @@ static void put_empty(const struct tree_cmac *cmac, uint64_t depth, uint64_t roo
                       uint8_t *card, size_t card_len) {
     uint8_t *nonce = anchor + KEY_BYTES + 8;
     cmac->set_key(cmac->context, anchor);
-    put_number(nonce, NONCE_BYTES, root);
+    put_nonces(anchor, root);
     memset(card, 0, card_len);
     for (size_t node = 2; node < 2 * leaves(depth); node++) {
         struct place place = place_of(depth, node);
@@ -115,7 +123,7 @@ uint64_t tree_format(const struct tree_cmac *cmac, uint8_t *anchor, size_t ancho
     if (anchor_len != ANCHOR_BYTES)
         return 5;
     struct anchor a = parse(anchor);
-    a.root = 0;
+    a.root = a.reserved = 0;
     uint64_t refusal = common_limits(&a, card_len);
     if (refusal != 0)
         return refusal;
@@ -131,9 +139,9 @@ uint64_t tree_wipe(const struct tree_cmac *cmac, uint8_t *anchor, size_t anchor_
     uint64_t refusal = common_limits(&a, card_len);
     if (refusal != 0)
         return refusal;
-    if (a.root > UINT64_MAX - a.depth)
+    if (a.reserved > UINT64_MAX - a.depth)
         return 7;
-    put_empty(cmac, a.depth, a.root + a.depth, anchor, card, card_len);
+    put_empty(cmac, a.depth, a.reserved + a.depth, anchor, card, card_len);
     return 0;
 }
 
@@ -196,9 +204,9 @@ static void renew(const struct tree_cmac *cmac, uint64_t depth, uint8_t *card, s
 static void put_block(const struct tree_cmac *cmac, const struct anchor *a, uint8_t *card,
                       size_t leaf, const uint8_t *block, uint8_t *ranges) {
     uint8_t parent[NONCE_BYTES], nonce[NONCE_BYTES];
-    put_number(parent, NONCE_BYTES, a->root + a->depth);
+    put_number(parent, NONCE_BYTES, a->reserved + a->depth);
     for (uint64_t above = a->depth; above-- > 0; ranges += 16) {
-        put_number(nonce, NONCE_BYTES, a->root + above);
+        put_number(nonce, NONCE_BYTES, a->reserved + above);
         renew(cmac, a->depth, card, leaf >> above, above == 0 ? block : nonce, parent, ranges);
         memcpy(parent, nonce, NONCE_BYTES);
     }
@@ -219,7 +227,7 @@ uint64_t tree_write(const struct tree_cmac *cmac, uint8_t *anchor, size_t anchor
         return 5;
     if (ranges_len < 16 * a.depth)
         return 6;
-    if (a.root > UINT64_MAX - a.depth)
+    if (a.reserved > UINT64_MAX - a.depth)
         return 7;
     cmac->set_key(cmac->context, anchor);
     size_t leaf = leaves(a.depth) + (size_t)index;
@@ -227,7 +235,7 @@ uint64_t tree_write(const struct tree_cmac *cmac, uint8_t *anchor, size_t anchor
     if (node != 0)
         return wrong(node);
     put_block(cmac, &a, card, leaf, block, ranges);
-    put_number(anchor + KEY_BYTES + 8, 8, a.root + a.depth);
+    put_nonces(anchor, a.reserved + a.depth);
     return 0;
 }
 

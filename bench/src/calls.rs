@@ -3,6 +3,7 @@
 pub mod before;
 mod card;
 mod instructions;
+pub mod journalled;
 mod merkle;
 mod places;
 mod plot;

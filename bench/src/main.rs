@@ -23,9 +23,10 @@ const PLOT: &str = "--plot";
 /// Prints everything; the plot goes to the file, if one is named.
 fn run(plot: Option<&str>) -> Result<(), String> {
     std::env::remove_var(child::VARIABLE);
-    eprintln!("Measuring takes about three minutes.");
+    eprintln!("Measuring takes about four minutes.");
     let (mut rows, mut results) = (chains::measure()?, calls::measure()?);
     let splits = calls::split::measure()?;
+    let journalled = calls::journalled::measure()?;
     let pairs = calls::before::measure()?;
     let pace = clock::best_pace();
     let figures = rows.iter_mut().flat_map(|row| &mut row.figures);
@@ -39,6 +40,7 @@ fn run(plot: Option<&str>) -> Result<(), String> {
     chains::print(&rows);
     calls::print(&results, plot.map(Path::new))?;
     calls::split::print(&splits, pace);
+    calls::journalled::print(&journalled, pace);
     calls::before::print(&pairs, pace);
     Ok(())
 }

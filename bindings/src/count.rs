@@ -9,6 +9,7 @@ extern "C" {
         key_len: usize,
         depth: u64,
         root: u64,
+        reserved: u64,
         card: *const u8,
         card_len: usize,
         index: u64,
@@ -20,6 +21,7 @@ extern "C" {
         key_len: usize,
         depth: u64,
         root: u64,
+        reserved: u64,
         card: *mut u8,
         card_len: usize,
         index: u64,
@@ -33,6 +35,7 @@ extern "C" {
         key_len: usize,
         depth: u64,
         root: u64,
+        reserved: u64,
         card: *mut u8,
         card_len: usize,
         index: u64,
@@ -48,6 +51,7 @@ extern "C" {
         key_len: usize,
         depth: u64,
         root: u64,
+        reserved: u64,
         card: *const u8,
         card_len: usize,
     ) -> u64;
@@ -56,16 +60,22 @@ extern "C" {
         key_len: usize,
         depth: u64,
         root: u64,
+        reserved: u64,
         card: *mut u8,
         card_len: usize,
     ) -> u64;
 }
 
-/// An anchor in its parts: key, depth and root nonce.
-pub type Anchor<'a> = (&'a [u8], u64, u64);
+/// An anchor in its parts: key, depth, root nonce and reserved nonce.
+pub type Anchor<'a> = (&'a [u8], u64, u64, u64);
 
 /// Reads a block into the buffer of 64 bytes.
-pub fn read((key, depth, root): Anchor, card: &[u8], index: u64, buffer: &mut [u8]) -> u64 {
+pub fn read(
+    (key, depth, root, reserved): Anchor,
+    card: &[u8],
+    index: u64,
+    buffer: &mut [u8],
+) -> u64 {
     // SAFETY: the pointers and lengths are those of slices that live through the call; the one written lies apart.
     unsafe {
         probe_count_read(
@@ -73,6 +83,7 @@ pub fn read((key, depth, root): Anchor, card: &[u8], index: u64, buffer: &mut [u
             key.len(),
             depth,
             root,
+            reserved,
             card.as_ptr(),
             card.len(),
             index,
@@ -84,7 +95,7 @@ pub fn read((key, depth, root): Anchor, card: &[u8], index: u64, buffer: &mut [u
 
 /// Writes a block of 64 bytes; the range buffer gets what changed on the card.
 pub fn write(
-    (key, depth, root): Anchor,
+    (key, depth, root, reserved): Anchor,
     card: &mut [u8],
     index: u64,
     block: &[u8],
@@ -97,6 +108,7 @@ pub fn write(
             key.len(),
             depth,
             root,
+            reserved,
             card.as_mut_ptr(),
             card.len(),
             index,
@@ -110,7 +122,7 @@ pub fn write(
 
 /// Plans a write of a block; the range buffer gets what the write changes, the other buffer the messages.
 pub fn plan(
-    (key, depth, root): Anchor,
+    (key, depth, root, reserved): Anchor,
     card: &mut [u8],
     index: u64,
     block: &[u8],
@@ -124,6 +136,7 @@ pub fn plan(
             key.len(),
             depth,
             root,
+            reserved,
             card.as_mut_ptr(),
             card.len(),
             index,
@@ -138,7 +151,7 @@ pub fn plan(
 }
 
 /// Checks every tag on the card.
-pub fn check((key, depth, root): Anchor, card: &[u8]) -> u64 {
+pub fn check((key, depth, root, reserved): Anchor, card: &[u8]) -> u64 {
     // SAFETY: the pointers and lengths are those of slices that live through the call.
     unsafe {
         probe_count_check(
@@ -146,6 +159,7 @@ pub fn check((key, depth, root): Anchor, card: &[u8]) -> u64 {
             key.len(),
             depth,
             root,
+            reserved,
             card.as_ptr(),
             card.len(),
         )
@@ -153,7 +167,7 @@ pub fn check((key, depth, root): Anchor, card: &[u8]) -> u64 {
 }
 
 /// Empties the card under the same key.
-pub fn wipe((key, depth, root): Anchor, card: &mut [u8]) -> u64 {
+pub fn wipe((key, depth, root, reserved): Anchor, card: &mut [u8]) -> u64 {
     // SAFETY: the pointers and lengths are those of slices that live through the call and lie apart.
     unsafe {
         probe_count_wipe(
@@ -161,6 +175,7 @@ pub fn wipe((key, depth, root): Anchor, card: &mut [u8]) -> u64 {
             key.len(),
             depth,
             root,
+            reserved,
             card.as_mut_ptr(),
             card.len(),
         )

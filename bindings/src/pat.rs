@@ -1,5 +1,5 @@
-//! The product's archive: format, read, write, the write's plan and the put of a tag, check and wipe, as safe calls on slices of
-//! any length.
+//! The product's archive: format, read, write, journalled or not, recovery, the write's plan and the put of a tag, check and wipe,
+//! as safe calls on slices of any length.
 //!
 //! Each answers 0 when accepted, else the number of the refusal plus 256 times the node.
 
@@ -25,8 +25,31 @@ extern "C" {
         ranges: *mut u8,
         ranges_len: usize,
     ) -> u64;
-    fn pat_plan(
+    fn pat_write_journalled(
+        anchor: *mut u8,
+        anchor_len: usize,
+        raised: *mut u8,
+        raised_len: usize,
+        card: *mut u8,
+        card_len: usize,
+        index: u64,
+        block: *const u8,
+        block_len: usize,
+        ranges: *mut u8,
+        ranges_len: usize,
+        journal: *mut u8,
+        journal_len: usize,
+    ) -> u64;
+    fn pat_recover(
         anchor: *const u8,
+        anchor_len: usize,
+        card: *mut u8,
+        card_len: usize,
+        journal: *const u8,
+        journal_len: usize,
+    ) -> u64;
+    fn pat_plan(
+        anchor: *mut u8,
         anchor_len: usize,
         card: *mut u8,
         card_len: usize,
@@ -55,7 +78,7 @@ extern "C" {
     fn pat_wipe(anchor: *mut u8, anchor_len: usize, card: *mut u8, card_len: usize) -> u64;
 }
 
-/// Makes a fresh card for the key and depth of the anchor, and sets the anchor's root nonce to 0.
+/// Makes a fresh card for the key and depth of the anchor, and sets the anchor's root nonce and reserved nonce to 0.
 pub fn format(anchor: &mut [u8], card: &mut [u8]) -> u64 {
     // SAFETY: the pointers and lengths are those of slices that live through the call and lie apart.
     unsafe {
@@ -108,9 +131,55 @@ pub fn write(
     }
 }
 
-/// Plans a write: all of it but its tags, whose messages go to a buffer of 656 bytes; the plan's 24 bytes are for the puts.
+/// Writes a block of 64 bytes and fills the journal of 56n + 80 bytes; the second anchor gets what goes out first.
+pub fn write_journalled(
+    anchor: &mut [u8],
+    raised: &mut [u8],
+    card: &mut [u8],
+    index: u64,
+    block: &[u8],
+    ranges: &mut [u8],
+    journal: &mut [u8],
+) -> u64 {
+    // SAFETY: the pointers and lengths are those of slices that live through the call; those written lie apart.
+    unsafe {
+        pat_write_journalled(
+            anchor.as_mut_ptr(),
+            anchor.len(),
+            raised.as_mut_ptr(),
+            raised.len(),
+            card.as_mut_ptr(),
+            card.len(),
+            index,
+            block.as_ptr(),
+            block.len(),
+            ranges.as_mut_ptr(),
+            ranges.len(),
+            journal.as_mut_ptr(),
+            journal.len(),
+        )
+    }
+}
+
+/// Puts the bytes of a journal that has the anchor's root nonce and a right tag into its ranges of the card.
+pub fn recover(anchor: &[u8], card: &mut [u8], journal: &[u8]) -> u64 {
+    // SAFETY: the pointers and lengths are those of slices that live through the call; the one written lies apart.
+    unsafe {
+        pat_recover(
+            anchor.as_ptr(),
+            anchor.len(),
+            card.as_mut_ptr(),
+            card.len(),
+            journal.as_ptr(),
+            journal.len(),
+        )
+    }
+}
+
+/// Plans a write: all of it but its tags, whose messages go to a buffer of 656 bytes; the plan's 24 bytes are for the puts. The
+/// anchor gets the next reserved nonce.
 pub fn plan(
-    anchor: &[u8],
+    anchor: &mut [u8],
     card: &mut [u8],
     index: u64,
     block: &[u8],
@@ -121,7 +190,7 @@ pub fn plan(
     // SAFETY: the pointers and lengths are those of slices that live through the call; those written lie apart.
     unsafe {
         pat_plan(
-            anchor.as_ptr(),
+            anchor.as_mut_ptr(),
             anchor.len(),
             card.as_mut_ptr(),
             card.len(),
@@ -138,7 +207,7 @@ pub fn plan(
     }
 }
 
-/// Puts a tag of 16 bytes at a node that the plan waits for; the last one puts the next root nonce into the anchor.
+/// Puts a tag of 16 bytes at a node that the plan waits for; the last one puts the plan's root nonce into the anchor.
 pub fn put_tag(anchor: &mut [u8], plan: &mut [u8], card: &mut [u8], node: u64, tag: &[u8]) -> u64 {
     // SAFETY: the pointers and lengths are those of slices that live through the call; those written lie apart.
     unsafe {
@@ -162,7 +231,7 @@ pub fn check(anchor: &[u8], card: &[u8]) -> u64 {
     unsafe { pat_check(anchor.as_ptr(), anchor.len(), card.as_ptr(), card.len()) }
 }
 
-/// Empties the card under the same key, and puts the next root nonce into the anchor.
+/// Empties the card under the same key, and puts the next root nonce and reserved nonce into the anchor.
 pub fn wipe(anchor: &mut [u8], card: &mut [u8]) -> u64 {
     // SAFETY: the pointers and lengths are those of slices that live through the call and lie apart.
     unsafe {

@@ -17,6 +17,10 @@ uint64_t anchor_root(const struct anchor *anchor) {
     return pat_get_number(anchor->bytes + PAT_ANCHOR_ROOT);
 }
 
+uint64_t anchor_reserved(const struct anchor *anchor) {
+    return pat_get_number(anchor->bytes + PAT_ANCHOR_RESERVED);
+}
+
 void warn_if_open(const struct request *request, const char *path, const struct stat *status) {
     if (S_ISREG(status->st_mode) && (status->st_mode & (S_IRGRP | S_IROTH)) != 0)
         notice(request, "warning: %s has a key and can be read by others: chmod 600 it", path);

@@ -39,5 +39,6 @@ void warn_if_open(const struct request *request, const char *path, const struct 
 
 uint64_t anchor_depth(const struct anchor *anchor);
 uint64_t anchor_root(const struct anchor *anchor);
+uint64_t anchor_reserved(const struct anchor *anchor);
 
 #endif

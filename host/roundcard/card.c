@@ -6,6 +6,7 @@
 #include <errno.h>
 #include <fcntl.h>
 #include <stdlib.h>
+#include <string.h>
 #include <unistd.h>
 
 // What is read of a file: all of it, and of one that is too long for any card one byte more than
@@ -30,13 +31,27 @@ int card_open(const struct request *request, struct card *card, enum purpose pur
     return status;
 }
 
-bool card_put_ranges(const struct card *card, const uint8_t *ranges, size_t count) {
-    for (size_t k = 0; k < count; k++) {
-        uint32_t start = pat_range_start(ranges, k);
-        if (!write_at(card->file, card->bytes + start, pat_range_length(ranges, k), (off_t)start))
+bool card_put_journal(const struct card *card, const uint8_t *journal, uint64_t depth) {
+    const uint8_t *ranges = journal + PAT_JOURNAL_RANGES, *bytes = ranges + PAT_RANGE_BYTES(depth);
+    for (size_t k = 0; k < PAT_RANGES(depth); k++) {
+        size_t length = pat_range_length(ranges, k);
+        if (!write_at(card->file, bytes, length, (off_t)pat_range_start(ranges, k)))
             return false;
+        bytes += length;
     }
     return fsync(card->file) == 0;
+}
+
+bool card_put_whole(const struct card *card) {
+    return write_at(card->file, card->bytes, card->length, 0) && fsync(card->file) == 0;
+}
+
+struct card card_copy(const struct card *card) {
+    struct card copy = *card;
+    copy.bytes = malloc(card->length + 1);
+    if (copy.bytes != NULL)
+        memcpy(copy.bytes, card->bytes, card->length);
+    return copy;
 }
 
 void card_close(struct card *card) {

@@ -90,11 +90,26 @@ static int check_all(const struct request *request, const struct anchor *anchor,
     return status;
 }
 
+// What a recovery would do for a check that is refused for a tag.
+static enum recovery seek_recovery(const struct anchor *anchor, const struct card *card) {
+    enum recovery found = CHANGES_NOTHING;
+    struct card recovered = card_copy(card);
+    if (recovered.bytes != NULL && journal_would_change(anchor, &recovered))
+        found = pat_check(anchor->bytes, anchor->length, recovered.bytes, recovered.length) ==
+                        PAT_ACCEPTED
+                    ? HELPS
+                    : MAY_HELP;
+    free(recovered.bytes);
+    return found;
+}
+
 static int check(const struct request *request, const struct anchor *anchor,
                  const struct card *card) {
     struct situation situation = situation_of(anchor, card);
     uint64_t answer = pat_check(anchor->bytes, anchor->length, card->bytes, card->length);
     situation.answer = answer;
+    if (pat_refusal(answer) == PAT_REFUSED_TAG)
+        situation.recovery = seek_recovery(anchor, card);
     bool all = request->options[OPTION_ALL] != NULL || request->options[OPTION_PICTURE] != NULL;
     bool of_tags =
         answer == 0 || (pat_refusal(answer) == PAT_REFUSED_TAG && possible_answer(&situation));
@@ -137,7 +152,7 @@ static const char help[] =
     "The map has a character for each block, or for each run of blocks where there are\n"
     "more than 1024. It has colours on a terminal, unless NO_COLOR is set.\n"
     "\n"
-    "Refused 5: the anchor file has not 32 bytes. 1: depth. 2: T. 3: card length.\n"
+    "Refused 5: the anchor file has not 40 bytes. 1: depth. 2: T or H. 3: card length.\n"
     "8: a wrong tag, the one of the lowest node. Status 70: the reads and the check do not\n"
     "agree.\n";
 

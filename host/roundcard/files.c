@@ -116,10 +116,14 @@ bool write_at(int file, const uint8_t *bytes, size_t length, off_t place) {
     return true;
 }
 
-// The directory that a file is in.
-static int open_directory_of(const char *path) {
+// The name of the directory that a file is in, in memory that the caller frees.
+static char *directory_of(const char *path) {
     const char *slash = strrchr(path, '/');
-    char *directory = slash == NULL ? strdup(".") : strndup(path, (size_t)(slash - path) + 1);
+    return slash == NULL ? strdup(".") : strndup(path, (size_t)(slash - path) + 1);
+}
+
+static int open_directory_of(const char *path) {
+    char *directory = directory_of(path);
     if (directory == NULL)
         return -1;
     int file = open(directory, O_RDONLY | O_DIRECTORY | O_CLOEXEC);
@@ -127,13 +131,47 @@ static int open_directory_of(const char *path) {
     return file;
 }
 
+static bool sync_directory(int directory) {
+    return fsync(directory) == 0 || errno == EINVAL; // some file systems do not offer it
+}
+
+bool sync_directory_of(const char *path) {
+    char *resolved = realpath(path, NULL);
+    int directory = open_directory_of(resolved == NULL ? path : resolved);
+    free(resolved);
+    if (directory < 0)
+        return false;
+    bool synced = sync_directory(directory);
+    close_keeping_errno(directory);
+    return synced;
+}
+
+static char *joined(const char *path, const char *suffix) {
+    size_t length = strlen(path) + strlen(suffix) + 1;
+    char *name = malloc(length);
+    if (name != NULL)
+        snprintf(name, length, "%s%s", path, suffix);
+    return name;
+}
+
+char *name_of_replacement(const char *path) {
+    return joined(path, beside);
+}
+
+bool can_be_replaced(const char *path) {
+    struct stat status;
+    char *new = name_of_replacement(path), *directory = directory_of(path);
+    bool can = new != NULL &&directory != NULL && (lstat(new, &status) == 0 || errno == ENOENT) &&
+               faccessat(AT_FDCWD, directory, W_OK | X_OK, AT_EACCESS) == 0;
+    free(new);
+    free(directory);
+    return can;
+}
+
 // The name beside the path that the bytes go to first.
 static bool name_beside(struct replacement *new, const char *suffix) {
-    size_t length = strlen(new->path) + strlen(suffix) + 1;
-    if ((new->written = malloc(length)) == NULL)
-        return false;
-    snprintf(new->written, length, "%s%s", new->path, suffix);
-    return true;
+    new->written = joined(new->path, suffix);
+    return new->written != NULL;
 }
 
 static bool keep_owner(const struct replacement *new, const struct stat *old) {
@@ -196,6 +234,21 @@ bool replacement_open_unlocked(struct replacement *new, const char *path, const 
     return new->directory >= 0;
 }
 
+bool replacement_open_like(struct replacement *new, const char *path, const struct stat *like) {
+    *new = (struct replacement){.file = -1, .directory = -1, .path = strdup(path)};
+    if (new->path == NULL || !name_beside(new, beside) ||
+        (unlink(new->written) != 0 && errno != ENOENT))
+        return false;
+    new->file = open(new->written, O_WRONLY | O_CREAT | O_EXCL | O_CLOEXEC, S_IRUSR | S_IWUSR);
+    if (new->file < 0)
+        return false;
+    bool same = keep_owner(new, like); // another group gets no rights from that one's
+    if (fchmod(new->file, like->st_mode & (same ? 0666 : 0606)) != 0)
+        return false;
+    new->directory = open_directory_of(new->path);
+    return new->directory >= 0;
+}
+
 bool replacement_fill(struct replacement *new, const uint8_t *bytes, size_t length) {
     return write_all(new->file, bytes, length) && fsync(new->file) == 0;
 }
@@ -209,7 +262,7 @@ bool replacement_commit(struct replacement *new) {
 }
 
 bool replacement_sync(const struct replacement *new) {
-    return fsync(new->directory) == 0 || errno == EINVAL; // some file systems do not offer it
+    return sync_directory(new->directory);
 }
 
 void replacement_close(struct replacement *new) {

@@ -27,6 +27,13 @@ bool lock_until(int file, int operation, uint64_t end);
 bool write_all(int file, const uint8_t *bytes, size_t length);
 bool write_at(int file, const uint8_t *bytes, size_t length, off_t place);
 
+// Makes names in the directory of that file stand. False with errno.
+bool sync_directory_of(const char *path);
+
+// Whether a new file can be made beside that one to take its place, as far as can be seen
+// beforehand. False with errno.
+bool can_be_replaced(const char *path);
+
 bool same_file(const struct stat *one, const struct stat *other);
 
 // A file that is made new, or that takes another's place whole. Each step gives false with errno.
@@ -43,6 +50,14 @@ bool replacement_open(struct replacement *new, const char *path, mode_t mode, bo
 
 // For a file that needs no lock, with what is there already or NULL: its owner and mode are kept.
 bool replacement_open_unlocked(struct replacement *new, const char *path, const struct stat *old);
+
+// What the new file of that name is called until it takes its place, in memory that the caller
+// frees.
+char *name_of_replacement(const char *path);
+
+// For a file that is made only under the lock of another, new or in the place of one that is there:
+// with that status's owner, where the system lets it, and its mode without what makes a program.
+bool replacement_open_like(struct replacement *new, const char *path, const struct stat *like);
 
 // Puts the bytes out, so that they stand when this returns.
 bool replacement_fill(struct replacement *new, const uint8_t *bytes, size_t length);

@@ -3,6 +3,7 @@
 #include "commands.h"
 #include "files.h"
 #include "input.h"
+#include "journal.h"
 #include "json.h"
 #include "refusal.h"
 #include "report.h"
@@ -23,6 +24,7 @@ struct making {
     uint8_t anchor[PAT_ANCHOR_BYTES];
     uint8_t *card;
     size_t card_len;
+    char *journal; // of the card that is replaced
     struct replacement new_anchor, new_card;
 };
 
@@ -87,6 +89,22 @@ static int put_in_place(const struct request *request, struct making *m) {
     if (!replacement_sync(&m->new_card) || !replacement_sync(&m->new_anchor))
         return system_failure(request, "%s and %s are made, but may not outlive a power cut",
                               anchor, card);
+    journal_remove(request, m->journal);
+    return 0;
+}
+
+// A journal of the card that was here before is not lost unasked: it may be all that is left of a
+// write.
+static int look_for_journal(const struct request *request, struct making *m) {
+    struct stat status;
+    m->journal = journal_path(request->words[1]);
+    if (m->journal == NULL)
+        return system_failure(request, "no memory for the journal");
+    if (request->options[OPTION_FORCE] == NULL && lstat(m->journal, &status) == 0)
+        return failure(request, STATUS_FILE,
+                       "the journal file %s is there already, of a card that was here; --force "
+                       "removes it",
+                       m->journal);
     return 0;
 }
 
@@ -175,11 +193,14 @@ static int run_format(const struct request *request) {
     m.new_anchor = m.new_card = (struct replacement){.file = -1, .directory = -1};
     int status = make(request, &m, depth);
     if (status == 0)
+        status = look_for_journal(request, &m);
+    if (status == 0)
         status = put_out_undisturbed(request, &m);
     if (m.lock >= 0)
         close(m.lock);
     explicit_bzero(m.anchor, sizeof m.anchor);
     free(m.card);
+    free(m.journal);
     return status == 0 ? report(request, depth) : status;
 }
 
@@ -191,7 +212,8 @@ static const char help[] =
     "  --depth N        from 1 to 16; the image has 104 * 2^N - 48 bytes\n"
     "  --key-file FILE  a key of 16 bytes, - for standard input; without it one is drawn\n"
     "                   from the system's random source\n"
-    "  --force          replace files that are there already\n"
+    "  --force          replace files that are there already; the old card's journal file\n"
+    "                   goes too\n"
     "  --json           report as a JSON object\n"
     "\n"
     "A key must be formatted only once: a second format under it would let old cards\n"

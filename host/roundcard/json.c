@@ -26,6 +26,11 @@ void json_null(const char *name) {
     fputs("null", stdout);
 }
 
+void json_truth(const char *name, bool is_so) {
+    put_name(name);
+    fputs(is_so ? "true" : "false", stdout);
+}
+
 void json_string(const char *name, const char *text) {
     json_text(name, (const uint8_t *)text, strlen(text));
 }
@@ -64,11 +69,12 @@ void json_list_close(void) {
     putchar(']');
 }
 
-void json_state(uint64_t depth, uint64_t root) {
+void json_state(uint64_t depth, uint64_t root, uint64_t reserved) {
     json_number("depth", depth);
     json_number("blocks", (uint64_t)1 << depth);
     json_number("root_nonce", root);
-    json_number("changes", root / depth);
+    json_number("reserved_nonce", reserved);
+    json_number("changes", reserved / depth);
     json_number("card_bytes", pat_card_bytes(depth));
 }
 

@@ -2,6 +2,7 @@
 #ifndef JSON_H
 #define JSON_H
 
+#include <stdbool.h>
 #include <stddef.h>
 #include <stdint.h>
 
@@ -12,6 +13,7 @@ void json_open(const char *command, int status);
 void json_number(const char *name, uint64_t number);
 
 void json_null(const char *name);
+void json_truth(const char *name, bool is_so);
 
 // A string that ends with a zero byte, and one of some length. What is not UTF-8 in it becomes
 // U+FFFD.
@@ -24,9 +26,9 @@ void json_hex(const char *name, const uint8_t *bytes, size_t length);
 void json_list_open(const char *name);
 void json_list_close(void);
 
-// What an anchor says of its card: depth, blocks, T, how many writes and wipes there were together,
-// since each moves T by the depth, and the card's length.
-void json_state(uint64_t depth, uint64_t root);
+// What an anchor says of its card: depth, blocks, T, H, how many writes, wipes and lost attempts
+// there were together, since each raises H by the depth, and the card's length.
+void json_state(uint64_t depth, uint64_t root, uint64_t reserved);
 
 // An object: how many AES calls each accepted call on a card of that depth makes.
 void json_aes_calls(uint64_t depth);

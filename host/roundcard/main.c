@@ -12,8 +12,9 @@
 #define VERSION "unknown"
 #endif
 
-static const struct command *const commands[] = {&format_command, &read_command,  &write_command,
-                                                 &wipe_command,   &check_command, &show_command};
+static const struct command *const commands[] = {&format_command,  &read_command, &write_command,
+                                                 &recover_command, &wipe_command, &check_command,
+                                                 &show_command};
 
 static const char help[] =
     "roundcard keeps rounds on a card image that anybody may alter, and sees if they did.\n"
@@ -21,13 +22,16 @@ static const char help[] =
     "  roundcard format --depth N [--key-file FILE] [--force] ANCHOR CARD\n"
     "  roundcard read   [--output FILE | --text | --hex] ANCHOR CARD BLOCK\n"
     "  roundcard write  [--input FILE | --text TEXT] ANCHOR CARD BLOCK\n"
+    "  roundcard recover ANCHOR CARD\n"
     "  roundcard wipe   [--yes] ANCHOR CARD\n"
     "  roundcard check  [--all] [--picture FILE] ANCHOR CARD\n"
     "  roundcard show   ANCHOR [CARD]\n"
     "\n"
-    "ANCHOR  a file of 32 bytes: the key, the depth and the root nonce T. It decides which\n"
-    "        card is the right one: keep it private, and never put back an old copy.\n"
-    "CARD    the card image, 104 * 2^depth - 48 bytes. It needs no protection.\n"
+    "ANCHOR  a file of 40 bytes: the key, the depth, the root nonce T and the reserved\n"
+    "        nonce H. It decides which card is the right one: keep it private, and never put\n"
+    "        back an old copy.\n"
+    "CARD    the card image, 104 * 2^depth - 48 bytes. It needs no protection. A write keeps\n"
+    "        a journal beside it, CARD.roundcard-journal: where the card goes, it goes too.\n"
     "BLOCK   a block number, from 0 to 2^depth - 1. A block has 64 bytes.\n"
     "\n"
     "Every command takes --json, --wait SECONDS for a lock that another process has, and\n"
@@ -36,13 +40,16 @@ static const char help[] =
     "Exit status: 0 when accepted, else the number of the refusal or a status from 64:\n"
     "\n"
     "   1  the depth is 0 or above 16              the calling software can mend it\n"
-    "   2  T is no multiple of the depth           the anchor\n"
+    "   2  T or H is no multiple of the depth, or\n"
+    "      H is below T                            the anchor\n"
     "   3  the card has another length             whoever has the card\n"
     "   4  there is no such block                  the calling software\n"
-    "   5  the anchor has not 32 bytes, or the\n"
+    "   5  the anchor has not 40 bytes, or the\n"
     "      new block not 64                        the calling software\n"
-    "   7  T is used up                            the anchor: format with a new key\n"
+    "   7  the nonces are used up                  the anchor: format with a new key\n"
     "   8  the tag of the node named is wrong      whoever has the card\n"
+    "  10  the journal has another length, or the\n"
+    "      ranges of no write                      whoever keeps the journal\n"
     "  64  the command line is wrong, or the text that is to be written\n"
     "  65  the block that was read is not text\n"
     "  70  the library gave an unknown answer, or contradicts itself\n"

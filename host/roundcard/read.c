@@ -10,6 +10,7 @@
 
 #include <inttypes.h>
 #include <stdio.h>
+#include <stdlib.h>
 #include <string.h>
 #include <unistd.h>
 
@@ -66,6 +67,23 @@ static int put_out(const struct request *request, uint64_t index, const uint8_t 
     return finish_output(request);
 }
 
+// A recovery may help where a tag is wrong.
+static int refuse(const struct request *request, const struct anchor *anchor, struct card *card,
+                  struct situation *situation) {
+    uint8_t block[PAT_BLOCK_BYTES];
+    if (pat_refusal(situation->answer) != PAT_REFUSED_TAG)
+        return explain_refusal(request, situation);
+    struct card recovered = card_copy(card);
+    if (recovered.bytes != NULL && journal_would_change(anchor, &recovered))
+        situation->recovery =
+            pat_read(anchor->bytes, anchor->length, recovered.bytes, recovered.length,
+                     situation->index, block, sizeof block) == PAT_ACCEPTED
+                ? HELPS
+                : MAY_HELP;
+    free(recovered.bytes);
+    return explain_refusal(request, situation);
+}
+
 static int read_block(const struct request *request, struct anchor *anchor, struct card *card,
                       uint64_t index) {
     uint8_t block[PAT_BLOCK_BYTES];
@@ -75,7 +93,7 @@ static int read_block(const struct request *request, struct anchor *anchor, stru
     situation.answer = answer;
     situation.index = index;
     if (answer != 0)
-        return explain_refusal(request, &situation);
+        return refuse(request, anchor, card, &situation);
     const char *path = output_of(request);
     int status = path == NULL ? 0 : output_put(request, path, anchor, card, block, PAT_BLOCK_BYTES);
     return status == 0 ? put_out(request, index, block) : status;
@@ -117,7 +135,7 @@ static const char help[] =
     "  --json         report as a JSON object, with the block as \"hex\" and, where it\n"
     "                 is text, as \"text\"\n"
     "\n"
-    "Refused 5: the anchor file has not 32 bytes. 1: depth. 2: T. 3: card length.\n"
+    "Refused 5: the anchor file has not 40 bytes. 1: depth. 2: T or H. 3: card length.\n"
     "4: block number. 8: a wrong tag, the first from the root downwards.\n"
     "Status 65: --text, and the block is not text.\n";
 

@@ -4,11 +4,13 @@
 #include <inttypes.h>
 #include <stdio.h>
 
-enum { LONGEST = 512 };
+// The longest text, and the length of an anchor before there was H.
+enum { LONGEST = 768, ANCHOR_BYTES_BEFORE = 32 };
 
 static const char software[] = "the calling software";
 static const char anchor[] = "the anchor";
 static const char holder[] = "whoever has the card";
+static const char keeper[] = "whoever keeps the journal";
 
 static const struct remedy remedies[] = {
     [PAT_REFUSED_DEPTH] = {software,
@@ -17,15 +19,19 @@ static const struct remedy remedies[] = {
                                 "use the anchor file as format, write or wipe last left it"},
     [PAT_REFUSED_CARD_LENGTH] = {holder, "give the whole card image that belongs to this anchor"},
     [PAT_REFUSED_BLOCK_NUMBER] = {software, "give the number of a block that the card has"},
-    [PAT_REFUSED_LENGTH] = {software, "give an anchor file of 32 bytes and a block of 64"},
+    [PAT_REFUSED_LENGTH] = {software, "give an anchor file of 40 bytes and a block of 64"},
     [PAT_REFUSED_RANGE_LENGTH] = {software, "give a range buffer of 16 bytes for each level"},
     [PAT_REFUSED_SPENT] = {anchor, "format a card under a new key, and write the rounds there"},
     [PAT_REFUSED_TAG] = {holder, "put back the card as format, write or wipe last left it"},
+    [PAT_REFUSED_JOURNAL] = {keeper,
+                             "put back the journal as the last write left it; where 'roundcard "
+                             "check' finds the card whole, or it is wiped, remove the journal"},
 };
 
 struct situation situation_of(const struct anchor *anchor_file, const struct card *card) {
     struct situation situation = {.depth = anchor_depth(anchor_file),
                                   .root = anchor_root(anchor_file),
+                                  .reserved = anchor_reserved(anchor_file),
                                   .anchor_len = anchor_file->length,
                                   .anchor_size = anchor_file->status.st_size,
                                   .anchor = anchor_file->bytes};
@@ -60,8 +66,13 @@ static void describe_length(char *text, const struct situation *s) {
         snprintf(text, LONGEST, "the anchor file has %lld bytes, as a card image has%s",
                  (long long)s->anchor_size,
                  s->card_len == PAT_ANCHOR_BYTES
-                     ? ", and the card image has 32, as an anchor file has"
+                     ? ", and the card image has 40, as an anchor file has"
                      : "");
+    else if (of_anchor && length == ANCHOR_BYTES_BEFORE)
+        snprintf(
+            text, LONGEST,
+            "the anchor file has 32 bytes, and not 40: roundcard made it before version 0.6.0, "
+            "and it has no reserved nonce H");
     else if (length > right)
         snprintf(text, LONGEST, "%s has more than %zu bytes", what, right);
     else
@@ -69,7 +80,11 @@ static void describe_length(char *text, const struct situation *s) {
 }
 
 static void advise_on_length(char *text, const struct situation *s) {
-    if (s->anchor_len != PAT_ANCHOR_BYTES && is_card_length(s->anchor_size))
+    if (s->anchor_len == ANCHOR_BYTES_BEFORE)
+        snprintf(text, LONGEST,
+                 "read its rounds with the roundcard that made it, format another card with a new "
+                 "key, and write them there");
+    else if (s->anchor_len != PAT_ANCHOR_BYTES && is_card_length(s->anchor_size))
         snprintf(text, LONGEST, "%sgive ANCHOR first, and CARD behind it",
                  s->card_len == PAT_ANCHOR_BYTES ? "the two are swapped: " : "");
     else
@@ -86,15 +101,39 @@ static void describe_card(char *text, const struct situation *s) {
                  s->card_len, s->depth, right);
 }
 
+static void describe_nonces(char *text, const struct situation *s) {
+    if (s->root % s->depth == 0 && s->reserved % s->depth == 0)
+        snprintf(text, LONGEST,
+                 "the reserved nonce H is %" PRIu64 ", below the root nonce T, which is %" PRIu64,
+                 s->reserved, s->root);
+    else
+        snprintf(text, LONGEST, "the %s is %" PRIu64 ", no multiple of the depth %" PRIu64,
+                 s->root % s->depth != 0 ? "root nonce T" : "reserved nonce H",
+                 s->root % s->depth != 0 ? s->root : s->reserved, s->depth);
+}
+
+static void describe_journal(char *text, const struct situation *s) {
+    size_t length = s->journal == NULL ? 0 : s->journal->length;
+    size_t right = PAT_JOURNAL_BYTES(s->depth);
+    if (length > PAT_MAX_JOURNAL_BYTES)
+        snprintf(text, LONGEST, "the journal file is longer than any journal");
+    else if (length != right)
+        snprintf(text, LONGEST,
+                 "the journal file has %zu bytes, and a journal of depth %" PRIu64 " has %zu",
+                 length, s->depth, right);
+    else
+        snprintf(text, LONGEST,
+                 "the journal has a right tag and ranges that no write has: whoever made it has "
+                 "the key");
+}
+
 static void describe(char *text, const struct situation *s) {
     switch (pat_refusal(s->answer)) {
     case PAT_REFUSED_DEPTH:
         snprintf(text, LONGEST, "the depth is %" PRIu64 ", and not 1 to 16", s->depth);
         break;
     case PAT_REFUSED_ROOT_NONCE:
-        snprintf(text, LONGEST,
-                 "the root nonce T is %" PRIu64 ", no multiple of the depth %" PRIu64, s->root,
-                 s->depth);
+        describe_nonces(text, s);
         break;
     case PAT_REFUSED_CARD_LENGTH:
         describe_card(text, s);
@@ -107,7 +146,10 @@ static void describe(char *text, const struct situation *s) {
         describe_length(text, s);
         break;
     case PAT_REFUSED_SPENT:
-        snprintf(text, LONGEST, "the root nonces are used up: T is %" PRIu64, s->root);
+        snprintf(text, LONGEST, "the nonces are used up: H is %" PRIu64, s->reserved);
+        break;
+    case PAT_REFUSED_JOURNAL:
+        describe_journal(text, s);
         break;
     case PAT_REFUSED_TAG:
         describe_node(text, s);
@@ -147,10 +189,20 @@ static void advise_on_block(char *text, const struct situation *s, uint64_t node
                  plain, index, hindrance, else_help);
 }
 
+// Where the journal's bytes are not all on the card.
+static const char recovery[] =
+    "some of the last write is not on the card, or is altered since: 'roundcard recover' puts its "
+    "bytes in their places";
+
 // More on a wrong tag. No write makes a node above the blocks right.
 static void advise_on_tag(char *text, const struct situation *s) {
     uint64_t node = pat_node(s->answer);
-    if (node >> s->depth != 0)
+    if (s->recovery == HELPS)
+        snprintf(text, LONGEST, "%s, and mends it", recovery);
+    else if (s->recovery == MAY_HELP)
+        snprintf(text, LONGEST, "%s, and may mend a part of it; then see what is still refused",
+                 recovery);
+    else if (node >> s->depth != 0)
         advise_on_block(text, s, node);
     else
         snprintf(text, LONGEST, "%s%s; no write mends it: %s", remedies[PAT_REFUSED_TAG].advice,
@@ -165,6 +217,10 @@ bool possible_answer(const struct situation *s) {
     if (number == 0 || number >= sizeof remedies / sizeof *remedies)
         return false;
     if (number != PAT_REFUSED_TAG && node != 0)
+        return false;
+    if (number == PAT_REFUSED_NOT_AWAITED)
+        return false;
+    if (number == PAT_REFUSED_JOURNAL && s->journal == NULL)
         return false;
     if (number == PAT_REFUSED_BLOCK_NUMBER || number == PAT_REFUSED_TAG) {
         if (pat_card_bytes(s->depth) == 0)

@@ -4,16 +4,22 @@
 
 #include "anchor.h"
 #include "card.h"
+#include "journal.h"
 #include "report.h"
+
+// What a recovery would do for a call that is refused for a tag.
+enum recovery { CHANGES_NOTHING, MAY_HELP, HELPS };
 
 // What a call was given.
 struct situation {
     uint64_t answer;
-    uint64_t depth, root, index;
+    uint64_t depth, root, reserved, index;
     size_t anchor_len, card_len, block_len;
     off_t anchor_size;            // of the file, where it is longer than what was read
     const uint8_t *anchor, *card; // on which reads can be tried, where there is a card
     bool writes;
+    const struct journal *journal; // where the call was given one
+    enum recovery recovery;
     struct details details;
 };
 

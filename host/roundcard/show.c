@@ -16,7 +16,7 @@ static uint64_t limit(const struct situation *s, bool with_card) {
         return PAT_REFUSED_LENGTH;
     if (pat_card_bytes(s->depth) == 0)
         return PAT_REFUSED_DEPTH;
-    if (s->root % s->depth != 0)
+    if (s->root % s->depth != 0 || s->reserved % s->depth != 0 || s->reserved < s->root)
         return PAT_REFUSED_ROOT_NONCE;
     if (with_card && s->card_len != pat_card_bytes(s->depth))
         return PAT_REFUSED_CARD_LENGTH;
@@ -29,14 +29,18 @@ static int report(const struct request *request, const struct situation *s) {
         printf("depth         %" PRIu64 "\n", s->depth);
         printf("blocks        %" PRIu64 ", numbers 0 to %" PRIu64 "\n", blocks, blocks - 1);
         printf("root nonce T  %" PRIu64 "\n", s->root);
-        printf("changes made  %" PRIu64 ", writes and wipes together\n", s->root / s->depth);
+        printf("reserved H    %" PRIu64 "%s\n", s->reserved,
+               s->reserved == s->root ? "" : ": an attempt after the last change was lost");
+        printf("changes made  %" PRIu64
+               ", writes and wipes together, and attempts that were lost\n",
+               s->reserved / s->depth);
         printf("card size     %zu bytes\n", pat_card_bytes(s->depth));
         printf("AES calls     read %zu, write %zu, check %zu, wipe %zu\n", PAT_AES_READ(s->depth),
                PAT_AES_WRITE(s->depth), PAT_AES_CHECK(s->depth), PAT_AES_WIPE(s->depth));
         return finish_output(request);
     }
     json_open("show", 0);
-    json_state(s->depth, s->root);
+    json_state(s->depth, s->root, s->reserved);
     json_aes_calls(s->depth);
     json_close();
     return finish_output(request);
@@ -68,17 +72,18 @@ static int run_show(const struct request *request) {
 static const char help[] =
     "usage: roundcard show [--json] ANCHOR [CARD]\n"
     "\n"
-    "Shows the depth, the root nonce T, the number of changes made, which are writes and\n"
-    "wipes, and the size of the card that an anchor file is for, and how many AES calls the\n"
-    "library makes for a read, a write, a check and a wipe of it. It never shows the key.\n"
-    "With a card image, it also sees whether the image has that size; it checks no tag.\n"
+    "Shows the depth, the root nonce T, the reserved nonce H, the number of changes made,\n"
+    "which are writes and wipes, with the attempts that were lost, and the size of the card\n"
+    "that an anchor file is for, and how many AES calls the library makes for a read, a\n"
+    "write, a check and a wipe of it. It never shows the key. With a card image, it also sees\n"
+    "whether the image has that size; it checks no tag.\n"
     "\n"
     "The AES calls are those of one call that is accepted. A refusal with 8 makes as many at\n"
     "most, and every other refusal none.\n"
     "\n"
     "  --json  report as a JSON object\n"
     "\n"
-    "Refused 5: the anchor file has not 32 bytes. 1: depth. 2: T. 3: card length.\n";
+    "Refused 5: the anchor file has not 40 bytes. 1: depth. 2: T or H. 3: card length.\n";
 
 const struct command show_command = {
     .name = "show",

@@ -13,10 +13,11 @@
 #include <stdio.h>
 #include <string.h>
 
-// Both files, under the lock.
+// The files, under the lock.
 struct wiping {
     struct anchor anchor;
     struct card card;
+    struct journal journal;
 };
 
 // Gives 0, or the status of the error it reported, with nothing left open. The second time, where
@@ -27,17 +28,30 @@ static int begin(const struct request *request, struct wiping *w, bool again) {
     if (status != 0)
         return status;
     status = card_open(request, &w->card, TO_WRITE);
+    if (status == 0) {
+        status = journal_open(request, &w->journal, &w->card);
+        if (status != 0)
+            card_close(&w->card);
+    }
     if (status != 0)
         anchor_close(&w->anchor);
     return status;
 }
 
 static void end(struct wiping *w) {
+    journal_close(&w->journal);
     card_close(&w->card);
     anchor_close(&w->anchor);
 }
 
-// Lets the library wipe both in memory.
+// Lets the library recover the card in memory, as before every change. A journal that is refused
+// cannot keep anybody from a wipe, which keeps nothing of the card.
+static void recover(struct wiping *w) {
+    if (journal_recover(&w->anchor, &w->card, &w->journal) != PAT_ACCEPTED)
+        w->journal.pending = false;
+}
+
+// Lets it wipe card and anchor in memory.
 static int make(const struct request *request, struct wiping *w) {
     uint64_t answer = pat_wipe(w->anchor.bytes, w->anchor.length, w->card.bytes, w->card.length);
     struct situation situation = situation_of(&w->anchor, &w->card);
@@ -45,12 +59,11 @@ static int make(const struct request *request, struct wiping *w) {
     return answer == 0 ? 0 : explain_refusal(request, &situation);
 }
 
-static int report(const struct request *request, const struct anchor *anchor,
-                  const struct change *change) {
+static int report(const struct request *request, const struct anchor *anchor, const char *done) {
     uint64_t depth = anchor_depth(anchor), root = anchor_root(anchor);
     if (request->options[OPTION_JSON] != NULL) {
         json_open("wipe", 0);
-        json_state(depth, root);
+        json_state(depth, root, anchor_reserved(anchor));
         json_close();
     } else {
         printf("wiped ");
@@ -58,21 +71,13 @@ static int report(const struct request *request, const struct anchor *anchor,
         printf(": all %" PRIu64 " blocks are empty, T is %" PRIu64 "\n", (uint64_t)1 << depth,
                root);
     }
-    return finish_after(request, "%s", change->done);
+    return finish_after(request, "%s", done);
 }
 
-// The card goes out as one range, which starts at 0.
 static int put_out(const struct request *request, const struct wiping *w) {
-    uint8_t whole[8];
-    pat_put_number(whole, w->card.length);
-    const struct change change = {
-        .ranges = whole,
-        .count = 1,
-        .done = "the card is wiped",
-        .helps = "wipe it again",
-    };
-    int status = store(request, &w->anchor, &w->card, &change);
-    return status == 0 ? report(request, &w->anchor, &change) : status;
+    const struct outgoing out = {&w->anchor, &w->card, &w->journal, "the card is wiped"};
+    int status = store_wipe(request, &out);
+    return status == 0 ? report(request, &w->anchor, out.done) : status;
 }
 
 static void say_loss(const struct request *request, const struct wiping *w, bool whole) {
@@ -92,6 +97,7 @@ static int ask(const struct request *request, uint8_t *asked) {
     int status = begin(request, &w, false);
     if (status != 0)
         return status;
+    recover(&w);
     bool whole = pat_check(w.anchor.bytes, w.anchor.length, w.card.bytes, w.card.length) == 0;
     status = make(request, &w);
     if (status == 0) {
@@ -111,6 +117,7 @@ static int wipe(const struct request *request, const uint8_t *asked) {
     int status = begin(request, &w, asked != NULL);
     if (status != 0)
         return status;
+    recover(&w);
     status = make(request, &w);
     if (status == 0 && asked != NULL && memcmp(asked, w.anchor.bytes, PAT_ANCHOR_BYTES) != 0)
         status = failure(request, STATUS_UNCONFIRMED,
@@ -150,15 +157,16 @@ static const char help[] =
     "          standard error is no terminal.\n"
     "  --json  report as a JSON object\n"
     "\n"
-    "The anchor file is replaced whole, then the card image is written; one wipe or write\n"
-    "at a time. A cut before the new anchor file is in place changes nothing. A cut after\n"
-    "it leaves a card that is in part older than its anchor: a check refuses it with 8, and\n"
-    "a read gives an empty block or is refused. Wipe it again: that mends it, whatever the\n"
-    "cut left. All signals that can be held back wait until both files are out.\n"
+    "The anchor file is replaced whole, then the card image is written, and its journal file\n"
+    "is removed; one wipe or write at a time. A cut before the new anchor file is in place\n"
+    "changes nothing. A cut after it leaves a card that is in part older than its anchor: a\n"
+    "check refuses it with 8, and a read gives an empty block or is refused. Wipe it again:\n"
+    "that mends it, whatever the cut left. All signals that can be held back wait until all\n"
+    "is out.\n"
     "\n"
-    "Refused 5: the anchor file has not 32 bytes. 1: depth. 2: T. 3: card length.\n"
-    "7: T is used up. Status 77: the answer is not yes, or the anchor file changed before\n"
-    "the answer.\n";
+    "Refused 5: the anchor file has not 40 bytes. 1: depth. 2: T or H. 3: card length.\n"
+    "7: the nonces are used up. Status 77: the answer is not yes, or the anchor file changed\n"
+    "before the answer.\n";
 
 const struct command wipe_command = {
     .name = "wipe",

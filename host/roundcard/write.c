@@ -71,71 +71,92 @@ static int take_input(const struct request *request, struct new_block *new) {
     return take_bytes(request, request->options[OPTION_INPUT], new, PAT_BLOCK_BYTES + 1);
 }
 
-static int report(const struct request *request, const struct anchor *anchor, uint64_t index,
-                  const struct change *change) {
-    uint64_t depth = anchor_depth(anchor), root = anchor_root(anchor);
+// A write in memory, with what goes out for it.
+struct writing {
+    struct anchor anchor;
+    struct card card;
+    struct journal journal;
+    uint64_t index;
+    uint8_t raised[PAT_ANCHOR_BYTES], new_journal[PAT_MAX_JOURNAL_BYTES];
+    uint8_t ranges[PAT_MAX_RANGE_BYTES];
+};
+
+static int report(const struct request *request, const struct writing *w, const char *done) {
+    uint64_t depth = anchor_depth(&w->anchor), root = anchor_root(&w->anchor);
+    size_t count = PAT_RANGES(depth);
     if (request->options[OPTION_JSON] == NULL) {
-        printf("wrote block %" PRIu64 ": T is %" PRIu64 ", %zu ranges of the card changed\n", index,
-               root, change->count);
-        return finish_after(request, "%s", change->done);
+        printf("wrote block %" PRIu64 ": T is %" PRIu64 ", %zu ranges of the card changed\n",
+               w->index, root, count);
+        return finish_after(request, "%s", done);
     }
     json_open("write", 0);
-    json_number("block", index);
+    json_number("block", w->index);
     json_number("root_nonce", root);
     json_number("changes", root / depth);
-    json_ranges("ranges", change->ranges, change->count);
+    json_ranges("ranges", w->ranges, count);
+    json_truth("recovered", w->journal.pending);
     json_close();
-    return finish_after(request, "%s", change->done);
+    return finish_after(request, "%s", done);
 }
 
 // Puts an accepted write out.
-static int put_out(const struct request *request, const struct anchor *anchor,
-                   const struct card *card, uint64_t index, const uint8_t *ranges) {
+static int put_out(const struct request *request, const struct writing *w) {
     char done[64];
-    snprintf(done, sizeof done, "block %" PRIu64 " is written", index);
-    const struct change change = {
-        .ranges = ranges,
-        .count = PAT_RANGES(anchor_depth(anchor)),
-        .done = done,
-        .helps = "'roundcard check --all' lists the blocks that are refused",
-    };
-    int status = store(request, anchor, card, &change);
-    return status == 0 ? report(request, anchor, index, &change) : status;
+    snprintf(done, sizeof done, "block %" PRIu64 " is written", w->index);
+    const struct outgoing out = {&w->anchor, &w->card, &w->journal, done};
+    const struct steps steps = {w->raised, w->new_journal};
+    int status = store_write(request, &out, &steps);
+    if (status == 0 && w->journal.pending && request->options[OPTION_JSON] == NULL)
+        notice(request, "the write before this one was not all on the card; now it is");
+    return status == 0 ? report(request, w, done) : status;
 }
 
-static int write_block(const struct request *request, struct anchor *anchor, struct card *card,
-                       uint64_t index, const struct new_block *new) {
-    uint8_t ranges[PAT_MAX_RANGE_BYTES];
-    uint64_t answer = pat_write(anchor->bytes, anchor->length, card->bytes, card->length, index,
-                                new->bytes, new->length, ranges, sizeof ranges);
-    struct situation situation = situation_of(anchor, card);
+// The tests of a write come in one order, whether the recovery before it or it makes them.
+static int write_block(const struct request *request, struct writing *w,
+                       const struct new_block *new) {
+    uint64_t answer = journal_recover(&w->anchor, &w->card, &w->journal);
+    if (answer == PAT_ACCEPTED)
+        answer = pat_write_journalled(w->anchor.bytes, w->anchor.length, w->raised,
+                                      sizeof w->raised, w->card.bytes, w->card.length, w->index,
+                                      new->bytes, new->length, w->ranges, sizeof w->ranges,
+                                      w->new_journal, PAT_JOURNAL_BYTES(anchor_depth(&w->anchor)));
+    struct situation situation = situation_of(&w->anchor, &w->card);
     situation.answer = answer;
-    situation.index = index;
+    situation.index = w->index;
     situation.block_len = new->length;
     situation.writes = true;
-    return answer == 0 ? put_out(request, anchor, card, index, ranges)
-                       : explain_refusal(request, &situation);
+    situation.journal = &w->journal;
+    return answer == 0 ? put_out(request, w) : explain_refusal(request, &situation);
+}
+
+static int write_files(const struct request *request, uint64_t index, const struct new_block *new) {
+    struct writing w = {.index = index};
+    int status = anchor_open(request, &w.anchor, EXCLUSIVE);
+    if (status != 0)
+        return status;
+    status = card_open(request, &w.card, TO_WRITE);
+    if (status == 0) {
+        status = journal_open(request, &w.journal, &w.card);
+        if (status == 0) {
+            status = write_block(request, &w, new);
+            journal_close(&w.journal);
+        }
+        card_close(&w.card);
+    }
+    anchor_close(&w.anchor);
+    explicit_bzero(w.raised, sizeof w.raised);
+    return status;
 }
 
 static int run_write(const struct request *request) {
     uint64_t index;
     struct new_block new;
-    struct anchor anchor;
-    struct card card;
     if (request->options[OPTION_INPUT] != NULL && request->options[OPTION_TEXT] != NULL)
         return failure(request, STATUS_USAGE, "only one of --input and --text can be given");
     if (!parse_number(request->words[2], &index))
         return failure(request, STATUS_USAGE, "%s is not a block number", request->words[2]);
     int status = take_input(request, &new);
-    if (status != 0 || (status = anchor_open(request, &anchor, EXCLUSIVE)) != 0)
-        return status;
-    status = card_open(request, &card, TO_WRITE);
-    if (status == 0) {
-        status = write_block(request, &anchor, &card, index, &new);
-        card_close(&card);
-    }
-    anchor_close(&anchor);
-    return status;
+    return status == 0 ? write_files(request, index, &new) : status;
 }
 
 static const char help[] =
@@ -148,18 +169,18 @@ static const char help[] =
     "                comes from standard input, less the newline that ends it\n"
     "  --json        report as a JSON object, with the ranges of the card that changed\n"
     "\n"
-    "The anchor file is replaced whole, then the changed ranges are copied to the card\n"
-    "image; one write at a time. A cut before the new anchor file is in place changes\n"
-    "nothing. A cut after it, before all ranges are out, leaves a card that is in part\n"
-    "older than its anchor. Nothing false is accepted: a check refuses it with 8, and so\n"
-    "does every read whose path meets such a part; with no range out, that is any read.\n"
-    "The refusal says what helps: to write one block again, or else to put back the card\n"
-    "as it was last left, or to format another one with a new key. All signals that can\n"
-    "be held back wait until both files are out.\n"
+    "It goes out in four steps, each synced before the next: the anchor file with H raised,\n"
+    "the journal file beside the card image, the anchor file with the new T, the changed\n"
+    "ranges of the card image. The two files are replaced whole, and one write at a time is\n"
+    "made. A cut at any moment loses nothing: the next write or wipe, or 'roundcard recover',\n"
+    "leaves the card as it was before the write where T is the old one, and as the write\n"
+    "made it where T is the new one. Until then reads may be refused with 8. All signals\n"
+    "that can be held back wait until all is out.\n"
     "\n"
-    "Refused 5: the anchor file has not 32 bytes. 1: depth. 2: T. 3: card length.\n"
-    "4: block number. 5: the block has not 64 bytes. 7: T is used up. 8: a wrong tag\n"
-    "on the way to the block or beside it; the block that is replaced is not checked.\n";
+    "Refused 5: the anchor file has not 40 bytes. 1: depth. 2: T or H. 3: card length.\n"
+    "10: the journal of the write before. 4: block number. 5: the block has not 64 bytes.\n"
+    "7: the nonces are used up. 8: a wrong tag on the way to the block or beside it; the\n"
+    "block that is replaced is not checked.\n";
 
 const struct command write_command = {
     .name = "write",

@@ -13,11 +13,12 @@ fail() {
 
 cat >"$room/expected" <<'EOF'
 block 5: 6 tags from 4 engines, 18 AES calls there and 14 in the plan
-    store the anchor with T = 3, then of the card 8+16 24+24 96+24 128+16 528+16 544+80
+    the anchor is kept with T = 3; store of the card 8+16 24+24 96+24 128+16 528+16 544+80
 block 2: 6 tags from 4 engines, 18 AES calls there and 14 in the plan
-    store the anchor with T = 6, then of the card 0+24 32+16 56+16 72+24 304+80 448+16
+    the anchor is kept with T = 6; store of the card 0+24 32+16 56+16 72+24 304+80 448+16
+block 5: the plan is left unfinished; the anchor is kept with T = 6 and H = 9
 block 5: 6 tags from 4 engines, 18 AES calls there and 14 in the plan
-    store the anchor with T = 9, then of the card 8+16 24+24 96+24 128+16 528+16 544+80
+    the anchor is kept with T = 12; store of the card 8+16 24+24 96+24 128+16 528+16 544+80
 block 5: van 9: round 12
 EOF
 "$example" >"$room/out" || fail 'the example'

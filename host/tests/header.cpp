@@ -11,6 +11,7 @@ static_assert(PAT_AES_CHECK(depth) == 53 && PAT_AES_WIPE(depth) == 53, "AES call
 static_assert(PAT_AES_READ(0) == 0 && PAT_AES_WRITE(17) == 0, "none where no call is accepted");
 static_assert(PAT_AES_PLAN(depth) == 14 && PAT_AES_PLAN(0) == 0, "AES calls of a plan");
 static_assert(PAT_MESSAGES(depth) == 6 && PAT_MESSAGES_FILLED(depth) == 214, "a plan's messages");
+static_assert(PAT_JOURNAL_BYTES(depth) == 248 && PAT_JOURNAL_BYTES(0) == 0, "a journal");
 static_assert(PAT_AES_CHECK(-1) == 0 && PAT_AES_WIPE(UINT64_MAX) == 0, "none, here neither");
 
 // A write on the anchor as a struct, and the anchor's bytes after it.
@@ -63,6 +64,28 @@ static bool split(uint8_t *anchor, uint8_t *card, const uint8_t *block, uint8_t 
     return answer == PAT_REFUSED_TAG + 256 * 3;
 }
 
+// A journalled write and the recovery of the card of before: T is old in the raised anchor, and new
+// in the one behind it.
+static bool journalled(uint8_t *anchor, uint8_t *card, const uint8_t *block, uint8_t *ranges) {
+    std::array<uint8_t, PAT_ANCHOR_BYTES> raised{};
+    std::array<uint8_t, PAT_JOURNAL_BYTES(depth)> journal{};
+    std::array<uint8_t, PAT_CARD_BYTES(depth)> before;
+    std::memcpy(before.data(), card, before.size());
+    uint64_t root = pat_get_number(anchor + PAT_ANCHOR_ROOT);
+    uint64_t answer = pat_write_journalled(
+        anchor, PAT_ANCHOR_BYTES, raised.data(), raised.size(), card, pat_card_bytes(depth), 2,
+        block, PAT_BLOCK_BYTES, ranges, PAT_RANGE_BYTES(depth), journal.data(), journal.size());
+    if (answer != PAT_ACCEPTED || pat_get_number(journal.data() + PAT_JOURNAL_ROOT) != root + depth)
+        return false;
+    if (pat_get_number(raised.data() + PAT_ANCHOR_ROOT) != root ||
+        pat_get_number(raised.data() + PAT_ANCHOR_RESERVED) != root + depth)
+        return false;
+    answer = pat_recover(anchor, PAT_ANCHOR_BYTES, before.data(), before.size(), journal.data(),
+                         journal.size());
+    return answer == PAT_ACCEPTED && std::memcmp(before.data(), card, before.size()) == 0 &&
+           std::memcmp(journal.data() + PAT_JOURNAL_RANGES, ranges, PAT_RANGE_BYTES(depth)) == 0;
+}
+
 int main() {
     std::array<uint8_t, PAT_ANCHOR_BYTES> anchor{};
     std::array<uint8_t, PAT_BLOCK_BYTES> block{}, buffer{};
@@ -94,5 +117,7 @@ int main() {
         return 6;
     if (!wiped(anchor.data(), card.data()))
         return 7;
-    return split(anchor.data(), card.data(), block.data(), ranges.data()) ? 0 : 8;
+    if (!journalled(anchor.data(), card.data(), block.data(), ranges.data()))
+        return 8;
+    return split(anchor.data(), card.data(), block.data(), ranges.data()) ? 0 : 9;
 }

@@ -51,6 +51,10 @@ for cc in "${CC:-gcc}" clang; do
     misuse IGNORED_PUT 'unused-result'
     misuse NO_MESSAGES 'nonnull'
     misuse NO_TAG 'nonnull'
+    misuse IGNORED_JOURNALLED 'unused-result'
+    misuse IGNORED_RECOVERY 'unused-result'
+    misuse NO_RAISED_ANCHOR 'nonnull'
+    misuse NO_JOURNAL 'nonnull'
     misuse NO_DEPTH 'zero.size'
 done
 for cxx in "${CXX:-g++}" clang++; do

@@ -59,8 +59,9 @@ fi
 # shellcheck disable=SC2086
 "${CC:-gcc}" -std=c99 -Wall -Wextra -Wpedantic -Werror "$here/../example.c" $flags -o "$room/example"
 "$room/example" >"$room/out" || fail 'the example'
-grep -q 'block 3: van 7: round 12' "$room/out" || fail 'the example reads something else'
-grep -q 'refused 8 at node 7' "$room/out" || fail 'the example is not refused'
+grep -q 'cut: refused 8 at node 7' "$room/out" || fail 'the example is not cut'
+grep -q 'recovered; block 3: van 7: round 12' "$room/out" || fail 'the example recovers something else'
+grep -q 'altered: refused 8 at node 7' "$room/out" || fail 'the example is not refused'
 grep -q 'wiped: an empty card' "$room/out" || fail 'the example does not end with an empty card'
 # shellcheck disable=SC2086
 "${CC:-gcc}" -std=c99 -Wall -Wextra -Wpedantic -Werror -pthread "$here/../engines.c" $flags -o "$room/engines"

@@ -4,12 +4,13 @@ the library."""
 
 from functools import lru_cache
 
-from model import Card, aes_calls
+from model import Card, aes_calls, packed
 
 KEY = bytes(range(0x40, 0x50))
 
-# Steps of a history beside the writes, which are block numbers: a wipe of the card as it is, and of one with other bytes.
-WIPE, WIPE_OTHER = "wipe", "wipe of other bytes"
+# Steps of a history beside the writes, which are block numbers: a wipe of the card as it is, and of one with other bytes; and a lost
+# attempt, of which nothing is left but the raised H.
+WIPE, WIPE_OTHER, LOST = "wipe", "wipe of other bytes", "lost"
 
 
 @lru_cache(maxsize=1)
@@ -31,15 +32,14 @@ def block(seed):
 def start(depth, root, made):
     """The row and the card of a start: a format's, its root nonce moved, or made for that root nonce."""
     card = Card(KEY, depth, root if made else 0)
-    card.root = root
+    card.set_nonces(root)
     return ("START", int(made), "", card, ""), card
 
 
 def write_rows(card, index, seed):
     """A write, and reads of another block and of that one."""
     ranges = card.write(index, block(seed))
-    packed = b"".join(n.to_bytes(4, "big") for pair in ranges for n in pair)
-    yield "WRITE", index, block(seed).hex(), card, packed.hex()
+    yield "WRITE", index, block(seed).hex(), card, packed(ranges).hex()
     other = (index * 5 + 1) % 2**card.depth
     yield "READ", other, card.read(other).hex(), card, ""
     yield "READ", index, card.read(index).hex(), card, ""
@@ -61,7 +61,10 @@ def rows(depth, steps, root, made):
     yield first
     for count, step in enumerate(steps):
         seed = depth + count // 2
-        if step in (WIPE, WIPE_OTHER):
+        if step == LOST:
+            card.lose()
+            yield "LOSE", 0, "", card, ""
+        elif step in (WIPE, WIPE_OTHER):
             yield from wipe_rows(card, seed if step == WIPE_OTHER else 0)
         else:
             yield from write_rows(card, step, seed)
@@ -89,6 +92,11 @@ HISTORIES = [
     ("sixteen, wiped", 16, [40000, WIPE, 40001], 0, False),
     ("late", 3, [WIPE_OTHER, 4, 5, WIPE, 3], 3 * 2**61, False),
     ("all ones", 5, [WIPE], 2**64 - 6, False),
+    ("one, lost", 1, [LOST, 0, 1, LOST, LOST, 1, WIPE, LOST, 0, LOST], 0, False),
+    ("three, lost", 3, [5, LOST, 5, 2, LOST, LOST, WIPE, 6, LOST, 7, 7], 0, False),
+    ("seven, lost", 7, [LOST, 90, LOST, WIPE_OTHER, LOST, 64], 0, False),
+    ("sixteen, lost", 16, [LOST, 40000], 0, False),
+    ("all but spent", 3, [WIPE, LOST, 4], 2**64 - 10, False),
     ("last", 2, [1], 2**64 - 4, True),
 ]
 
@@ -99,7 +107,7 @@ def main():
     for name, depth, steps, root, made in HISTORIES:
         for call, index, argument, card, ranges in rows(depth, steps, root, made):
             print(f'    {{"{name}", {depth}, {call}, {index}, "{argument}",')
-            print(f"     {card.root}u, 0x{digest(bytes(card.bytes)):016x}u, \"{ranges}\"}},")
+            print(f"     {card.root}u, {card.reserved}u, 0x{digest(bytes(card.bytes)):016x}u, \"{ranges}\"}},")
     print("};")
     print("// The card from which the history 'last' starts: no format makes it.")
     print("static const char last_card[] =")

@@ -5,7 +5,10 @@ computed by model.py and not by the library."""
 from copy import deepcopy
 
 from known import KEY, block, digest, long_string
-from model import NONCE, Card, place
+from model import NONCE, Card, packed, place
+
+# A plan that is left unfinished: H is raised, and the card of before is loaded anew.
+LEFT = "left"
 
 # Name, depth, the root nonce at which the card is wiped first, if any, and the blocks that are written, each by a plan and its puts.
 HISTORIES = [
@@ -15,6 +18,10 @@ HISTORIES = [
     *((f"depth {depth}", depth, None, [2**depth * 5 // 7]) for depth in range(4, 17)),
     ("late", 3, 3 * 2**61, [4, 5]),
     ("all ones", 5, 2**64 - 11, [30]),
+    ("one, left", 1, None, [LEFT, 1, LEFT, LEFT, 0]),
+    ("three, left", 3, None, [5, LEFT, 5, LEFT, LEFT, 1]),
+    ("seven, left", 7, None, [LEFT, 90]),
+    ("all but spent", 3, 2**64 - 13, [LEFT, 4]),
     ("last", 2, 2**64 - 6, [1]),
 ]
 
@@ -23,7 +30,7 @@ def start(depth, wiped):
     """A formatted card, or one that is wiped from a root nonce on."""
     card = Card(KEY, depth)
     if wiped is not None:
-        card.root = wiped
+        card.set_nonces(wiped)
         card.wipe()
     return card
 
@@ -39,12 +46,16 @@ def long_hex(data):
 
 def plan_rows(name, depth, wiped, steps):
     """The rows of a history's plans, and those of their puts."""
-    card = start(depth, wiped)
+    card, left = start(depth, wiped), 0
     for count, index in enumerate(steps):
+        if index == LEFT:
+            left += 1
+            card.lose()
+            continue
         seed = depth + count
         plain = deepcopy(card) if depth <= 8 else None
         plan = card.plan(index, block(seed))
-        ranges = b"".join(n.to_bytes(4, "big") for pair in card.ranges(index) for n in pair)
+        ranges = packed(card.ranges(index))
         planned, plan_calls, puts = digest(bytes(card.bytes)), card.cmac.calls, []
         for node in shuffled(plan.nodes, seed):
             tag = plan.tag(node)
@@ -53,10 +64,12 @@ def plan_rows(name, depth, wiped, steps):
         if plain is not None:
             assert plain.write(index, block(seed)) == card.ranges(index)
             assert (plain.bytes, plain.root) == (card.bytes, card.root), "a split write leaves what a write does"
-        row = f'    {{"{name}", {depth}, {wiped or 0}u, {index}, {card.root}u,\n'
+            assert plain.reserved == card.reserved, "and its H"
+        row = f'    {{"{name}", {depth}, {wiped or 0}u, {left}, {index}, {card.root}u,\n'
         row += f"     0x{planned:016x}u, 0x{digest(bytes(card.bytes)):016x}u, {plan_calls}, {card.cmac.calls - plan_calls},\n"
         row += f'     "{block(seed).hex()}",\n     {long_hex(ranges)},\n     {long_hex(b"".join(plan.messages))}}},'
         yield row, puts
+        left = 0
 
 
 def message_rows(depth):

@@ -57,10 +57,13 @@ same 'refusal numbers'
 
 # Each call with its refusals in their order; in place it is the write's without the test of the anchor's length.
 awk '/Refused/ {on = 1}
-    on {rest = $0; while (match(rest, /[1-9]:/)) {list = list " " substr(rest, RSTART, 1); rest = substr(rest, RSTART + 2)}}
+    on {
+        rest = $0
+        while (match(rest, /[0-9]+:/)) {list = list " " substr(rest, RSTART, RLENGTH - 1); rest = substr(rest, RSTART + RLENGTH)}
+    }
     /^uint64_t pat_/ {sub(/\(.*/, ""); if (on) print $2 list; if ($2 == "pat_write") write = list; on = 0; list = ""}
     END {print "pat_write_in_place" substr(write, 3)}' "$header" >"$room/header"
-section 'RETURN VALUE' | awk '/^\.TP/ {on = 1; next} on && /^\.B / {name = $2; next} on {gsub(/[^1-9 ]/, ""); $1 = $1; print name " " $0}' >"$room/page"
+section 'RETURN VALUE' | awk '/^\.TP/ {on = 1; next} on && /^\.B / {name = $2; next} on {gsub(/[^0-9 ]/, ""); $1 = $1; print name " " $0}' >"$room/page"
 same 'the order of refusals'
 
 example 1 >"$room/example.c"

@@ -8,6 +8,7 @@ uint8_t no_card[PAT_CARD_BYTES(0)];
 
 uint64_t use(uint8_t *anchor, uint8_t *card);
 uint64_t use_split(uint8_t *anchor, uint8_t *card, uint8_t *bytes);
+uint64_t use_journal(uint8_t *anchor, uint8_t *card, uint8_t *bytes);
 
 uint64_t use(uint8_t *anchor, uint8_t *card) {
     (void)anchor;
@@ -48,5 +49,34 @@ uint64_t use_split(uint8_t *anchor, uint8_t *card, uint8_t *bytes) {
 #else
     return pat_put_tag(anchor, PAT_ANCHOR_BYTES, plan, sizeof plan, card, pat_card_bytes(1), 2,
                        bytes, PAT_TAG_BYTES);
+#endif
+}
+
+uint64_t use_journal(uint8_t *anchor, uint8_t *card, uint8_t *bytes) {
+    uint8_t raised[PAT_ANCHOR_BYTES], journal[PAT_JOURNAL_BYTES(1)];
+    (void)raised;
+#ifdef IGNORED_JOURNALLED
+    pat_write_journalled(anchor, PAT_ANCHOR_BYTES, raised, sizeof raised, card, pat_card_bytes(1),
+                         0, bytes, PAT_BLOCK_BYTES, bytes, PAT_MAX_RANGE_BYTES, journal,
+                         sizeof journal);
+#endif
+#ifdef IGNORED_RECOVERY
+    pat_recover(anchor, PAT_ANCHOR_BYTES, card, pat_card_bytes(1), journal, sizeof journal);
+#endif
+#ifdef NO_RAISED_ANCHOR
+    return pat_write_journalled(anchor, PAT_ANCHOR_BYTES, NULL, 0, card, pat_card_bytes(1), 0,
+                                bytes, PAT_BLOCK_BYTES, bytes, PAT_MAX_RANGE_BYTES, journal,
+                                sizeof journal);
+#endif
+#ifdef NO_JOURNAL
+    (void)bytes, (void)journal;
+    return pat_recover(anchor, PAT_ANCHOR_BYTES, card, pat_card_bytes(1), NULL, 0);
+#else
+    uint64_t answer = pat_write_journalled(anchor, PAT_ANCHOR_BYTES, raised, sizeof raised, card,
+                                           pat_card_bytes(1), 0, bytes, PAT_BLOCK_BYTES, bytes,
+                                           PAT_MAX_RANGE_BYTES, journal, sizeof journal);
+    return answer != PAT_ACCEPTED ? answer
+                                  : pat_recover(anchor, PAT_ANCHOR_BYTES, card, pat_card_bytes(1),
+                                                journal, sizeof journal);
 #endif
 }

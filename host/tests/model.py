@@ -1,104 +1,29 @@
-"""The card of document 01, with the wipe of request T-01, a count of AES calls and the split write of request T-03, in plain Python,
-AES-128 and CMAC included, for known answers and for the tool's tests."""
+"""The card of document 01, with the wipe of request T-01, a count of AES calls, the split write of request T-03, and the reserved nonce,
+journal and recovery of request T-05, in plain Python, AES-128 and CMAC included, for known answers and for the tool's tests."""
+
+from copy import deepcopy
+
+from cipher import Cmac
 
 KEY, BLOCK, TAG, NONCE = 16, 64, 16, 8
 
 
-def double(x):
-    """Twice x in the field of FIPS 197."""
-    return (x << 1) ^ (0x11B if x & 0x80 else 0)
-
-
-def times(x, y):
-    product = 0
-    while y:
-        product, x, y = product ^ (x if y & 1 else 0), double(x), y >> 1
-    return product
-
-
-def substitute(x):
-    """An entry of the substitution table by its rule."""
-    inverse = next((y for y in range(256) if times(x, y) == 1), 0)
-    turned = inverse | inverse << 8
-    return (inverse ^ turned >> 4 ^ turned >> 5 ^ turned >> 6 ^ turned >> 7 ^ 0x63) & 0xFF
-
-
-SBOX = [substitute(x) for x in range(256)]
-TWICE = [double(x) for x in range(256)]
-
-
-def expand(key):
-    """The eleven round keys."""
-    words, constant = [list(key[4 * k : 4 * k + 4]) for k in range(4)], 1
-    for k in range(4, 44):
-        word = words[k - 1]
-        if k % 4 == 0:
-            word = [SBOX[b] for b in word[1:] + word[:1]]
-            word[0] ^= constant
-            constant = double(constant)
-        words.append([a ^ b for a, b in zip(words[k - 4], word)])
-    return [sum(words[4 * r : 4 * r + 4], []) for r in range(11)]
-
-
-def mix(a, b, c, d):
-    """A column of MixColumns."""
-    every = a ^ b ^ c ^ d
-    return [a ^ every ^ TWICE[a ^ b], b ^ every ^ TWICE[b ^ c], c ^ every ^ TWICE[c ^ d], d ^ every ^ TWICE[d ^ a]]
-
-
-class Aes:
-    """FIPS 197 under one key, and how many blocks were encrypted."""
-
-    def __init__(self, key):
-        self.keys, self.calls = expand(key), 0
-
-    def encrypt(self, block):
-        self.calls += 1
-        state = [a ^ b for a, b in zip(block, self.keys[0])]
-        for number in range(1, 11):
-            state = [SBOX[state[(k + 4 * (k % 4)) % 16]] for k in range(16)]
-            if number < 10:
-                state = sum((mix(*state[k : k + 4]) for k in (0, 4, 8, 12)), [])
-            state = [a ^ b for a, b in zip(state, self.keys[number])]
-        return state
-
-
-class Cmac:
-    """RFC 4493 under one key, and how many AES calls its subkeys and tags took. Where it is to remember, a message that comes again is
-    not computed again, and counts the calls that it took first."""
-
-    def __init__(self, key, remember=False):
-        self.aes, self.remember, self.made = Aes(key), remember, {}
-        self.subkeys = [self.double(self.aes.encrypt(bytes(16)))]
-        self.subkeys.append(self.double(self.subkeys[0]))
-        self.calls = self.aes.calls
-
-    @staticmethod
-    def double(block):
-        number = int.from_bytes(bytes(block), "big") << 1
-        return ((number & (1 << 128) - 1) ^ (0x87 if number >> 128 else 0)).to_bytes(16, "big")
-
-    def tag(self, message):
-        if message not in self.made or not self.remember:
-            before = self.aes.calls
-            self.made[message] = self.compute(message), self.aes.calls - before
-        tag, calls = self.made[message]
-        self.calls += calls
-        return tag
-
-    def compute(self, message):
-        cut = 16 * max(0, (len(message) - 1) // 16)
-        last, subkey = message[cut:], self.subkeys[0]
-        if len(last) < 16:
-            last, subkey = (last + b"\x80").ljust(16, b"\0"), self.subkeys[1]
-        state = bytes(16)
-        for k in range(0, cut, 16):
-            state = self.aes.encrypt([a ^ b for a, b in zip(state, message[k : k + 16])])
-        return bytes(self.aes.encrypt([a ^ b ^ c for a, b, c in zip(state, last, subkey)]))
-
-
 def card_bytes(depth):
     return 104 * 2**depth - 48
+
+
+def journal_bytes(depth):
+    return 56 * depth + 80
+
+
+def packed(ranges):
+    """A list of ranges as a write gives it."""
+    return b"".join(number.to_bytes(4, "big") for pair in ranges for number in pair)
+
+
+def unpacked(data):
+    numbers = [int.from_bytes(data[k : k + 4], "big") for k in range(0, len(data), 4)]
+    return list(zip(numbers[::2], numbers[1::2]))
 
 
 def place(depth, node):
@@ -119,7 +44,7 @@ class Card:
 
     def __init__(self, key, depth, root=0):
         """A card whose nonces and blocks are all zero, with tags right for the root nonce: a format where that is 0."""
-        self.key, self.depth, self.root = key, depth, root
+        self.key, self.depth, self.root, self.reserved = key, depth, root, root
         self.bytes = bytearray(card_bytes(depth))
         self.begin()
         self.empty(0)
@@ -140,7 +65,15 @@ class Card:
             self.put_tag(node, self.cmac.tag(self.message(node)))
 
     def anchor(self):
-        return self.key + self.depth.to_bytes(8, "big") + self.root.to_bytes(8, "big")
+        return self.key + b"".join(number.to_bytes(8, "big") for number in (self.depth, self.root, self.reserved))
+
+    def set_nonces(self, root, reserved=None):
+        """T and H, which is T where no other is given."""
+        self.root, self.reserved = root, root if reserved is None else reserved
+
+    def lose(self):
+        """An attempt that is lost: H is raised, and nothing else is left of it."""
+        self.reserved += self.depth
 
     def label(self, node, root=None):
         """A node's nonce or block. The root's nonce is the anchor's, where no other is given."""
@@ -184,14 +117,15 @@ class Card:
         """The nonces of the path's inner nodes, and the block, as a write gives them."""
         path = self.path(index)
         for y, node in enumerate(path[1:-1], 1):
-            self.put_label(node, (self.root + self.depth - y).to_bytes(8, "big"))
+            self.put_label(node, (self.reserved - y).to_bytes(8, "big"))
         self.put_label(path[-1], block)
 
     def write(self, index, block):
         """An accepted write; gives the ranges."""
         self.begin(self.before_write(index))
+        self.reserved += self.depth
         self.put_labels(index, block)
-        self.root += self.depth
+        self.root = self.reserved
         for node in self.path(index)[1:]:
             for child in (node, node ^ 1):
                 self.put_tag(child, self.cmac.tag(self.message(child)))
@@ -200,6 +134,7 @@ class Card:
     def plan(self, index, block):
         """An accepted plan: what a write checks and puts, but for the tags and the root nonce."""
         self.begin(self.before_write(index))
+        self.reserved += self.depth
         self.put_labels(index, block)
         return Plan(self, index)
 
@@ -210,7 +145,8 @@ class Card:
     def wipe(self):
         """An accepted wipe."""
         self.begin()
-        self.root += self.depth
+        self.reserved += self.depth
+        self.root = self.reserved
         self.empty(self.root)
 
     def ranges(self, index):
@@ -221,6 +157,34 @@ class Card:
             start, size = place(self.depth, node ^ 1)
             changed.append((start + size, TAG))
         return sorted(changed)
+
+    def journalled(self, index, block):
+        """An accepted journalled write; gives the raised anchor, the journal and the ranges."""
+        raised = deepcopy(self)
+        raised.lose()
+        ranges = self.write(index, block)
+        return raised.anchor(), self.journal_of(ranges), ranges
+
+    def journal_of(self, ranges):
+        """The journal of a write that left the card as it is."""
+        told = self.root.to_bytes(8, "big") + packed(ranges) + b"".join(bytes(self.bytes[s : s + length]) for s, length in ranges)
+        return told + Cmac(self.key).tag(told)
+
+    def applies(self, journal):
+        """Whether a journal has the anchor's T and a right tag."""
+        return journal[:8] == self.root.to_bytes(8, "big") and journal[-TAG:] == Cmac(self.key).tag(journal[:-TAG])
+
+    def recover(self, journal):
+        """An accepted recovery; gives whether the journal is applied."""
+        assert len(journal) == journal_bytes(self.depth), "the recovery would be refused"
+        if not self.applies(journal):
+            return False
+        ranges, place = unpacked(journal[8 : 8 + 16 * self.depth]), 8 + 16 * self.depth
+        assert any(ranges == self.ranges(index) for index in range(2**self.depth)), "the recovery would be refused"
+        for start, length in ranges:
+            self.bytes[start : start + length] = journal[place : place + length]
+            place += length
+        return True
 
     def block(self, index):
         return self.label(2**self.depth + index)
@@ -237,7 +201,7 @@ class Plan:
     """A split write behind its plan: the nodes that it gives tags to, rising, and their messages under the root nonce to come."""
 
     def __init__(self, card, index):
-        self.card, self.index, self.root, self.filled = card, index, card.root + card.depth, set()
+        self.card, self.index, self.root, self.filled = card, index, card.reserved, set()
         self.nodes = sorted(child for node in card.path(index)[1:] for child in (node, node ^ 1))
         self.messages = [card.message(node, self.root) for node in self.nodes]
 

@@ -20,6 +20,7 @@ struct measured {
 static _Alignas(16) uint8_t stack[ROOM];
 static uint8_t anchor[PAT_ANCHOR_BYTES], card[PAT_CARD_BYTES(PAT_MAX_DEPTH)];
 static uint8_t block[PAT_BLOCK_BYTES], ranges[PAT_MAX_RANGE_BYTES];
+static uint8_t raised[PAT_ANCHOR_BYTES], journal[PAT_MAX_JOURNAL_BYTES];
 static uint8_t plan_bytes[PAT_PLAN_BYTES], messages[PAT_MESSAGES_BYTES], tag[PAT_TAG_BYTES];
 static uint64_t depth, answer;
 static size_t card_len;
@@ -43,6 +44,17 @@ static uint64_t read(void) {
 static uint64_t write(void) {
     return pat_write(anchor, sizeof anchor, card, card_len, 1, block, sizeof block, ranges,
                      PAT_RANGE_BYTES(depth));
+}
+
+static uint64_t write_journalled(void) {
+    return pat_write_journalled(anchor, sizeof anchor, raised, sizeof raised, card, card_len, 1,
+                                block, sizeof block, ranges, PAT_RANGE_BYTES(depth), journal,
+                                PAT_JOURNAL_BYTES(depth));
+}
+
+// Of a journal that is applied once write_journalled was called.
+static uint64_t recover(void) {
+    return pat_recover(anchor, sizeof anchor, card, card_len, journal, PAT_JOURNAL_BYTES(depth));
 }
 
 static uint64_t check(void) {
@@ -134,6 +146,8 @@ static size_t measure_all(uint64_t new_depth) {
                                             {"pat_check", check, NULL},
                                             {"pat_wipe", wipe, NULL},
                                             {"pat_write_in_place", write_in_place, NULL},
+                                            {"pat_write_journalled", write_journalled, NULL},
+                                            {"pat_recover", recover, write_journalled},
                                             {"pat_plan", plan, format},
                                             {"pat_put_tag", put_tag, plan_anew},
                                             {"pat_put_tag, of the last tag,", put_tag, plan_one}};

@@ -3,7 +3,7 @@
 #   symbols.sh ARCHIVE
 set -eu
 archive=$1
-offered='pat_check pat_format pat_plan pat_put_tag pat_read pat_wipe pat_write pat_write_in_place'
+offered='pat_check pat_format pat_plan pat_put_tag pat_read pat_recover pat_wipe pat_write pat_write_in_place pat_write_journalled'
 allowed='memcpy memset memmove memcmp'
 room=$(mktemp -d)
 trap 'rm -rf "$room"' EXIT

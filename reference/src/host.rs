@@ -4,22 +4,23 @@
 use crate::tree::layout::TAG_BYTES;
 use crate::tree::{self, Anchor, Answer, Plan, Planned};
 
-pub const ANCHOR_BYTES: usize = 32;
+pub const ANCHOR_BYTES: usize = 40;
 pub const PLAN_BYTES: usize = 24;
 
 /// Room for the messages of a plan of any depth: 15 pairs of inner nodes and the leaves of depth 16.
 pub const MESSAGES_BYTES: usize = 2 * (15 * 17 + 73);
 
-/// The answer to an anchor, a plan, messages or a tag of another length, before every other test.
+/// The answer to an anchor, raised or not, a plan, messages or a tag of another length, before every other test.
 const LENGTH: u64 = 5;
 
-/// The anchor in its bytes: key, depth (8), root nonce (8). None for another length.
+/// The anchor in its bytes: key, depth (8), root nonce (8), reserved nonce (8). None for another length.
 fn anchor_of(bytes: &[u8]) -> Option<Anchor> {
     let bytes = <&[u8; ANCHOR_BYTES]>::try_from(bytes).ok()?;
     let mut anchor = Anchor {
         key: [0; 16],
         depth: number(&bytes[16..24]),
-        root: number(&bytes[24..]),
+        root: number(&bytes[24..32]),
+        reserved: number(&bytes[32..]),
     };
     anchor.key.copy_from_slice(&bytes[..16]);
     Some(anchor)
@@ -59,10 +60,16 @@ pub fn put_planned(planned: &Planned, plan: &mut [u8], messages: &mut [u8]) {
     }
 }
 
-/// Puts the root nonce of an accepted call into the anchor; gives the answer in one number.
+/// The bytes of an anchor.
+fn anchor_bytes(anchor: &Anchor) -> Vec<u8> {
+    let numbers = [anchor.depth, anchor.root, anchor.reserved];
+    [&anchor.key[..], &numbers.map(u64::to_be_bytes).concat()].concat()
+}
+
+/// Puts the anchor of an accepted call in the place of the one that it was given; gives the answer in one number.
 fn settle(answer: &Answer, bytes: &mut [u8]) -> u64 {
     if let Answer::Accepted(anchor) = answer {
-        bytes[24..].copy_from_slice(&anchor.root.to_be_bytes());
+        bytes.copy_from_slice(&anchor_bytes(anchor));
     }
     code(answer)
 }
@@ -103,9 +110,37 @@ pub fn pat_write(
     settle(&written.answer, anchor)
 }
 
+/// Journalled write.
+pub fn pat_write_journalled(
+    anchor: &mut [u8],
+    raised: &mut [u8],
+    card: &mut [u8],
+    index: u64,
+    block: &[u8],
+    ranges: &mut [u8],
+    journal: &mut [u8],
+) -> u64 {
+    let (Some(given), ANCHOR_BYTES) = (anchor_of(anchor), raised.len()) else {
+        return LENGTH;
+    };
+    let (written, first) = tree::write_journalled(&given, card, index, block, ranges, journal);
+    if let Some(first) = first {
+        raised.copy_from_slice(&anchor_bytes(&first));
+    }
+    settle(&written.answer, anchor)
+}
+
+/// Recovery.
+pub fn pat_recover(anchor: &[u8], card: &mut [u8], journal: &[u8]) -> u64 {
+    let Some(given) = anchor_of(anchor) else {
+        return LENGTH;
+    };
+    code(&tree::recover(&given, card, journal))
+}
+
 /// Plan.
 pub fn pat_plan(
-    anchor: &[u8],
+    anchor: &mut [u8],
     card: &mut [u8],
     index: u64,
     block: &[u8],
@@ -121,7 +156,7 @@ pub fn pat_plan(
     if let Some(planned) = planned {
         put_planned(&planned, plan, messages);
     }
-    code(&counted.answer)
+    settle(&counted.answer, anchor)
 }
 
 /// Put.
@@ -158,133 +193,4 @@ pub fn pat_wipe(anchor: &mut [u8], card: &mut [u8]) -> u64 {
 }
 
 #[cfg(test)]
-mod tests {
-    use super::*;
-    use crate::cmac::Cmac;
-
-    /// An anchor with that depth and root nonce.
-    fn anchor(depth: u64, root: u64) -> Vec<u8> {
-        [&[0x42; 16][..], &depth.to_be_bytes(), &root.to_be_bytes()].concat()
-    }
-
-    /// Format sets T to 0 whatever it was, and only when accepted.
-    #[test]
-    fn format_sets_the_root_nonce() {
-        let mut lent = anchor(1, 77);
-        assert_eq!(pat_format(&mut lent, &mut [1; 159]), 3);
-        assert_eq!(lent, anchor(1, 77));
-        assert_eq!(pat_format(&mut lent, &mut [1; 160]), 0);
-        assert_eq!(lent, anchor(1, 0));
-    }
-
-    /// An accepted write puts the new T there, and a later refusal names its node.
-    #[test]
-    fn write_moves_the_root_nonce() {
-        let (mut lent, mut card) = (anchor(2, 0), [0; 368]);
-        assert_eq!(pat_format(&mut lent, &mut card), 0);
-        let old = card;
-        let answer = pat_write(&mut lent, &mut card, 2, &[5; 64], &mut [0; 32]);
-        assert_eq!(answer, 0);
-        assert_eq!(lent, anchor(2, 2));
-        assert_eq!(pat_read(&lent, &old, 2, &mut [0; 64]), 8 + 256 * 3);
-        assert_eq!(pat_check(&lent, &old), 8 + 256 * 2);
-        let mut buffer = [0; 64];
-        assert_eq!(pat_read(&lent, &card, 2, &mut buffer), 0);
-        assert_eq!(buffer, [5; 64]);
-    }
-
-    /// An accepted wipe puts the new T there, a refused one none, and the card of before is refused.
-    #[test]
-    fn wipe_moves_the_root_nonce() {
-        let (mut lent, mut card) = (anchor(2, 0), [0; 368]);
-        assert_eq!(pat_format(&mut lent, &mut card), 0);
-        let old = card;
-        assert_eq!(pat_wipe(&mut lent, &mut card[1..]), 3);
-        assert_eq!((&lent, card), (&anchor(2, 0), old));
-        assert_eq!(pat_wipe(&mut lent, &mut card), 0);
-        assert_eq!(lent, anchor(2, 2));
-        assert_eq!(pat_check(&lent, &card), 0);
-        assert_eq!(pat_check(&lent, &old), 8 + 256 * 2);
-    }
-
-    /// A plan leaves its bytes and its messages and no new T; the last put brings that, and each fills its place.
-    #[test]
-    fn puts_fill_the_plan() {
-        let (mut lent, mut card, mut ranges) = (anchor(2, 0), [0; 368], [0; 32]);
-        assert_eq!(pat_format(&mut lent, &mut card), 0);
-        let (mut plan, mut messages) = ([0x99; 24], [0x99; 656]);
-        let before = lent.clone();
-        let answer = pat_plan(
-            &lent,
-            &mut card,
-            2,
-            &[5; 64],
-            &mut ranges,
-            &mut plan,
-            &mut messages,
-        );
-        assert_eq!((answer, &lent), (0, &before));
-        assert_eq!(plan, [2, 2, 0].map(u64::to_be_bytes).concat()[..]);
-        let (used, rest) = messages.split_at(34 * 2 + 112);
-        assert_eq!(rest, [0x99; 476]);
-        let cmac = Cmac::new(&[0x42; 16]);
-        let (inner, leaves) = used.split_at(34);
-        let tags = [
-            (2, &inner[..17]),
-            (3, &inner[17..]),
-            (6, &leaves[..73]),
-            (7, &leaves[73..]),
-        ]
-        .map(|(node, message)| (node, cmac.tag(message)));
-        for (put, (place, filled)) in [(3, 8), (0, 9), (2, 13), (1, 15)].into_iter().enumerate() {
-            assert_eq!(lent, before, "{put} puts");
-            let (node, tag) = tags[place];
-            assert_eq!(pat_put_tag(&mut lent, &mut plan, &mut card, node, &tag), 0);
-            assert_eq!(plan, [2, 2, filled].map(u64::to_be_bytes).concat()[..]);
-            let again = pat_put_tag(&mut lent, &mut plan, &mut card, node, &[0; 16]);
-            assert_eq!(again, 9);
-        }
-        assert_eq!(lent, anchor(2, 2));
-        assert_eq!(pat_check(&lent, &card), 0);
-    }
-
-    /// Another length of the plan, the messages or the tag is refused 5, whatever else is wrong.
-    #[test]
-    fn other_lengths_come_first() {
-        let mut lent = anchor(17, 1);
-        for (plan, messages) in [(23, 656), (25, 656), (24, 655), (24, 657), (0, 0)] {
-            let (mut plan, mut messages) = (vec![1; plan], vec![2; messages]);
-            let answer = pat_plan(&lent, &mut [], 9, &[], &mut [], &mut plan, &mut messages);
-            assert_eq!(answer, 5);
-            assert!(plan.iter().all(|&byte| byte == 1));
-            assert!(messages.iter().all(|&byte| byte == 2));
-        }
-        for (plan, tag) in [(23, 16), (25, 16), (24, 15), (24, 17), (0, 0)] {
-            let (mut plan, tag) = (vec![1; plan], vec![2; tag]);
-            let answer = pat_put_tag(&mut lent, &mut plan, &mut [], 9, &tag);
-            assert_eq!(answer, 5);
-            assert!(plan.iter().all(|&byte| byte == 1));
-        }
-        assert_eq!(lent, anchor(17, 1));
-    }
-
-    /// Another length of the anchor is refused 5, whatever else is wrong.
-    #[test]
-    fn anchor_length_comes_first() {
-        for length in [0, 31, 33, 64] {
-            let mut lent = vec![0xff; length];
-            let before = lent.clone();
-            assert_eq!(pat_format(&mut lent, &mut []), 5);
-            assert_eq!(pat_read(&lent, &[], 9, &mut []), 5);
-            assert_eq!(pat_write(&mut lent, &mut [], 9, &[], &mut []), 5);
-            assert_eq!(pat_check(&lent, &[]), 5);
-            assert_eq!(pat_wipe(&mut lent, &mut []), 5);
-            let (mut plan, mut messages) = ([3; 24], [4; 656]);
-            let planned = pat_plan(&lent, &mut [], 9, &[], &mut [], &mut plan, &mut messages);
-            let put = pat_put_tag(&mut lent, &mut plan, &mut [], 9, &[5; 16]);
-            assert_eq!([planned, put], [5; 2]);
-            assert_eq!((plan, messages), ([3; 24], [4; 656]));
-            assert_eq!(lent, before);
-        }
-    }
-}
+mod tests;

@@ -4,6 +4,7 @@
 //! its depth.
 
 mod calls;
+pub mod journal;
 pub mod layout;
 mod limits;
 pub mod messages;
@@ -11,13 +12,17 @@ pub mod paths;
 pub mod ranges;
 mod words;
 
-pub use calls::{check, format, plan, put_tag, read, wipe, write};
+pub use calls::{check, format, plan, put_tag, read, recover, wipe, write, write_journalled};
 pub use words::{Anchor, Answer, BlockIndex, Counted, Node, Nonce, Plan, Planned, Refusal};
 
 #[cfg(test)]
 mod counts;
 #[cfg(test)]
 mod errors;
+#[cfg(test)]
+mod journals;
+#[cfg(test)]
+mod reserved;
 #[cfg(test)]
 mod rows;
 #[cfg(test)]

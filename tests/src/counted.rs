@@ -17,7 +17,7 @@ fn same(what: &str, probed: Guarded, left: &[u8]) {
 
 /// The anchor as the probe takes it.
 fn parts(anchor: &Anchor) -> count::Anchor<'_> {
-    (&anchor.key, anchor.depth, anchor.root)
+    (&anchor.key, anchor.depth, anchor.root, anchor.reserved)
 }
 
 /// A read into the buffer.

@@ -1,14 +1,16 @@
-//! A list of calls from its format on, and what document 01 promises of each call in it.
+//! A list of calls from its format on: the anchor, card and journal as last left, and the plain array.
 
 use crate::call::{Answer, Call, Kind};
 use crate::random::Random;
 use crate::split::Split;
-use crate::{cards, plans};
+use crate::{cards, journals, plans};
 use reference::array::{Array, Told};
 use reference::host;
 use reference::tree::layout;
 
-/// How many earlier cards a list keeps.
+mod promise;
+
+/// How many earlier cards and journals a list keeps.
 const KEPT: usize = 8;
 
 /// The anchor, the card as last left, and what a reader may expect of them.
@@ -19,11 +21,16 @@ pub struct List {
     pub array: Array,
     /// Some cards as they were left earlier; the first is format's.
     pub old: Vec<Vec<u8>>,
+    /// The journal beside the card: zeros, and then what the last journalled write left of it.
+    pub journal: Vec<u8>,
+    /// Some journals of journalled writes, done or lost.
+    pub journals: Vec<Vec<u8>>,
     /// How many wipes were accepted.
     pub wipes: u64,
-    /// The root nonce at the start, and how many writes and wipes were accepted since.
+    /// The nonces at the start, how many writes and wipes were accepted since, and how many attempts were lost.
     start: u64,
     moves: u64,
+    lost: u64,
     /// Whether every accepted write since the format or the last wipe had an untouched card.
     clean: bool,
 }
@@ -31,7 +38,7 @@ pub struct List {
 impl List {
     /// Formats a card of bytes from elsewhere.
     pub fn new(depth: u64, random: &mut Random) -> Self {
-        let anchor = cards::anchor(&random.block(), depth, random.word());
+        let anchor = cards::anchor(&random.block(), depth, random.word(), random.word());
         let mut call = Call::on(anchor, random.bytes(layout::card_bytes(depth)));
         assert_eq!(call.both(), Answer::ACCEPTED);
         List {
@@ -40,9 +47,12 @@ impl List {
             array: Array::formatted(depth),
             old: vec![call.card.clone()],
             card: call.card,
+            journal: vec![0; journals::bytes(depth)],
+            journals: Vec::new(),
             wipes: 0,
             start: 0,
             moves: 0,
+            lost: 0,
             clean: true,
         }
     }
@@ -57,12 +67,12 @@ impl List {
         list
     }
 
-    /// The same card made right for a root nonce from which that many writes or wipes go up to the limit. Every nonce used
-    /// from here on is new, as after so many of them.
+    /// The same card made right for nonces from which that many writes or wipes go up to the limit. Every nonce used from here
+    /// on is new, as after so many of them.
     pub fn moved_before(mut self, limit: u64, room: u64) -> Self {
         self.start = limit / self.depth * self.depth - room * self.depth;
-        self.moves = 0;
-        cards::set_root(&mut self.anchor, self.start);
+        (self.moves, self.lost) = (0, 0);
+        cards::set_nonces(&mut self.anchor, self.start);
         cards::restamp(&self.anchor, &mut self.card);
         self
     }
@@ -88,6 +98,11 @@ impl List {
                 call.messages = random.bytes(host::MESSAGES_BYTES);
             }
             Kind::Put => self.any_put(&mut call, random),
+            Kind::Journalled => {
+                call.raised = random.bytes(host::ANCHOR_BYTES);
+                call.journal = random.bytes(journals::bytes(self.depth));
+            }
+            Kind::Recover => call.journal.clone_from(&self.journal),
             _ => {}
         }
         call
@@ -101,10 +116,10 @@ impl List {
         call.tag = random.bytes(layout::TAG_BYTES);
     }
 
-    /// Any bytes for a read's buffer; for a write or a plan sometimes the block that is there already, or nearly.
+    /// Any bytes for a read's buffer; for a write sometimes the block that is there already, or nearly.
     fn block(&self, kind: Kind, index: u64, random: &mut Random) -> Vec<u8> {
         let mut there = self.array.block(index).to_vec();
-        let new = matches!(kind, Kind::Write | Kind::Plan);
+        let new = kind.writes();
         match random.below(6) {
             0 if new => there,
             1 if new => {
@@ -148,47 +163,6 @@ impl List {
         call.kind != Kind::Format && call.anchor == self.anchor
     }
 
-    /// Holds a call of the list to the array and to the promise of an untouched card.
-    pub fn judge(&mut self, before: &Call, after: &Call, answer: Answer) {
-        let untouched = before.card == self.card;
-        if self.clean && untouched {
-            assert_ne!(answer.number, 8, "untouched card: {}", before.short());
-        }
-        let accepted = answer.accepted();
-        match before.kind {
-            Kind::Read => {
-                let told = Told::Read(before.index);
-                if let Some(block) = self.array.step(told, accepted) {
-                    assert_eq!(after.block, block, "{}", before.short());
-                }
-            }
-            Kind::Write | Kind::Plan if accepted => expect_inside_ranges(self.depth, before, after),
-            Kind::Check if accepted => self.expect_array(&before.card),
-            Kind::Wipe => self.expect_wiped(before, after, accepted),
-            _ => {}
-        }
-    }
-
-    /// Every block on the card is the array's.
-    pub fn expect_array(&self, card: &[u8]) {
-        for (index, block) in (0..).zip(self.array.blocks()) {
-            assert_eq!(cards::block(card, self.depth, index), block);
-        }
-    }
-
-    /// A wipe within its limits is accepted, and leaves the same whatever was on the card.
-    fn expect_wiped(&self, before: &Call, after: &Call, accepted: bool) {
-        let room = u64::MAX - cards::root(&self.anchor) >= self.depth;
-        let fits = before.card.len() == self.card.len();
-        assert_eq!(accepted, room && fits, "{}", before.short());
-        if accepted {
-            let mut own = before.clone();
-            own.card.copy_from_slice(&self.card);
-            assert_eq!(own.archive(), Answer::ACCEPTED);
-            after.expect_bytes(&own, "the card as last left, wiped");
-        }
-    }
-
     /// Goes on after an accepted write or wipe.
     pub fn accept(&mut self, before: &Call, after: Call, random: &mut Random) {
         let untouched = before.card == self.card;
@@ -206,21 +180,58 @@ impl List {
     /// Goes on from what a write, whole or split, or a wipe has left.
     fn go_on_from(&mut self, before: &Call, untouched: bool, after: Call, random: &mut Random) {
         let wiped = before.kind == Kind::Wipe;
-        let told = match wiped {
-            true => Told::Wipe,
-            false => Told::Write(before.index, &before.block),
-        };
-        self.array.step(told, true);
+        self.array.step(told(before), true);
         self.clean = wiped || self.clean && untouched;
         self.moves += 1;
         self.wipes += u64::from(wiped);
-        let left = std::mem::replace(&mut self.card, after.card);
+        let left = std::mem::replace(&mut self.card, after.card.clone());
         self.keep(left, random);
-        self.anchor = after.anchor;
-        let expected = self.start + self.moves * self.depth;
-        assert_eq!(cards::root(&self.anchor), expected);
+        self.anchor = after.anchor.clone();
+        self.expect_nonces(self.expected());
         if wiped {
             self.expect_array(&self.card);
+        }
+        if before.kind == Kind::Journalled {
+            self.keep_journal(after.journal.clone(), random);
+            self.journal = after.journal;
+        }
+    }
+
+    /// H: n times the accepted writes and wipes and the lost attempts, above the start.
+    fn expected(&self) -> u64 {
+        self.start + (self.moves + self.lost) * self.depth
+    }
+
+    /// The anchor has that T, and the H that all attempts so far have taken.
+    fn expect_nonces(&self, root: u64) {
+        assert_eq!(cards::root(&self.anchor), root);
+        assert_eq!(cards::reserved(&self.anchor), self.expected());
+    }
+
+    /// Goes on after an attempt of which only the raised anchor is kept.
+    pub fn lose(&mut self, raised: Vec<u8>) {
+        let root = cards::root(&self.anchor);
+        self.anchor = raised;
+        self.lost += 1;
+        self.expect_nonces(root);
+    }
+
+    /// Goes on after some attempts that left nothing else behind, as long as nonces are left.
+    pub fn lose_some(mut self, count: usize) -> Self {
+        for _ in 0..count {
+            if u64::MAX - cards::reserved(&self.anchor) >= self.depth {
+                self.lose(cards::raised(&self.anchor));
+            }
+        }
+        self
+    }
+
+    /// Keeps a journal for later, in the place of another when there are many.
+    pub fn keep_journal(&mut self, journal: Vec<u8>, random: &mut Random) {
+        if self.journals.len() < KEPT {
+            self.journals.push(journal);
+        } else {
+            self.journals[random.below(KEPT)] = journal;
         }
     }
 
@@ -234,13 +245,10 @@ impl List {
     }
 }
 
-/// What the write changed lies in the ranges that it handed out.
-fn expect_inside_ranges(depth: u64, before: &Call, after: &Call) {
-    let mut outside = after.card.clone();
-    for range in after.ranges[..16 * depth as usize].chunks(8) {
-        let number = |bytes: &[u8]| bytes.iter().fold(0, |sum, &byte| 256 * sum + byte as usize);
-        let (start, length) = (number(&range[..4]), number(&range[4..]));
-        outside[start..start + length].copy_from_slice(&before.card[start..start + length]);
+/// What the array is told of a write or a wipe.
+fn told(call: &Call) -> Told<'_> {
+    match call.kind {
+        Kind::Wipe => Told::Wipe,
+        _ => Told::Write(call.index, &call.block),
     }
-    assert!(outside == before.card, "a byte outside the ranges changed");
 }

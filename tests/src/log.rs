@@ -206,19 +206,18 @@ impl Run {
         counted
     }
 
-    /// Makes a wipe with a short card, too great a depth, a root nonce that is no multiple, or the last multiple. At depth 1
-    /// every number is a multiple, and the last number stands for the third.
+    /// Makes a wipe with a short card, too great a depth, a root nonce that is no multiple, or the last multiple as reserved
+    /// nonce. At depth 1 every number is a multiple, and the last number stands for the third.
     fn wipe_beyond_a_limit(&mut self) -> Counted {
-        let Anchor { key, depth, root } = self.anchor;
-        let (deeper, bytes) = (depth + 16, self.card.len());
-        let (depth, root, bytes) = match self.draws.draw() % 4 {
-            0 => (depth, root, bytes - 1),
-            1 => (deeper, root, bytes),
-            2 if depth == 1 => (depth, u64::MAX, bytes),
-            2 => (depth, root ^ 1, bytes),
-            _ => (depth, u64::MAX / depth * depth, bytes),
-        };
-        let anchor = Anchor { key, depth, root };
+        let (mut anchor, mut bytes) = (self.anchor, self.card.len());
+        let depth = anchor.depth;
+        match self.draws.draw() % 4 {
+            0 => bytes -= 1,
+            1 => anchor.depth += 16,
+            2 if depth == 1 => anchor.reserved = u64::MAX,
+            2 => anchor.root ^= 1,
+            _ => anchor.reserved = u64::MAX / depth * depth,
+        }
         tree::wipe(&anchor, &mut self.card[..bytes])
     }
 
@@ -229,6 +228,9 @@ impl Run {
         let block: [u8; 64] = self.draws.bytes();
         let (lent, ranges) = (&mut self.card[..card], &mut self.ranges[..ranges]);
         let (counted, planned) = tree::plan(&self.anchor, lent, index, &block, ranges);
+        if let Answer::Accepted(raised) = counted.answer {
+            self.anchor = raised;
+        }
         if flipped {
             self.flip();
         }

@@ -13,6 +13,11 @@ pub fn index(plan: &[u8]) -> u64 {
     number(plan, 0)
 }
 
+/// The root nonce in a plan's bytes.
+pub fn root(plan: &[u8]) -> u64 {
+    number(plan, 8)
+}
+
 /// The filled places in a plan's bytes.
 pub fn filled(plan: &[u8]) -> u64 {
     number(plan, 16)

@@ -49,17 +49,17 @@ impl Split {
     /// any more.
     pub fn go_on(&mut self, at: usize, before: &Call, after: Call) {
         let (node, _) = self.waiting.remove(at);
-        let Split { asked, left, .. } = self;
-        let (depth, root) = (cards::depth(&asked.anchor), cards::root(&asked.anchor));
+        let Split { asked, left, .. } = &*self;
+        let mut anchor = cards::raised(&asked.anchor);
+        let (depth, root) = (cards::depth(&anchor), cards::reserved(&anchor));
         let place = plans::nodes(depth, asked.index)
             .iter()
             .position(|&one| one == node);
         let filled = plans::filled(&left.plan) | 1 << place.expect("a node of the plan");
-        let due = plans::plan(asked.index, root + depth, filled);
+        let due = plans::plan(asked.index, root, filled);
         assert_eq!(after.plan, due, "{}", before.short());
-        let mut anchor = asked.anchor.clone();
         if self.waiting.is_empty() {
-            cards::set_root(&mut anchor, root + depth);
+            cards::set_root(&mut anchor, root);
         }
         assert_eq!(after.anchor, anchor, "{}", before.short());
         self.untouched &= before.card == left.card;

@@ -6,16 +6,22 @@ use crate::random::Random;
 use crate::{cards, plans};
 use reference::tree::{layout, paths, BlockIndex, Node};
 
+mod anchor;
+mod journal;
+
 /// One of several.
 fn pick<T: Copy>(random: &mut Random, choices: &[T]) -> T {
     choices[random.below(choices.len())]
 }
 
-/// Alters something of the call, most often the card, or now and then what only a plan or a put has.
+/// Alters something of the call, most often the card, or now and then what only this call has.
 pub fn any(call: &mut Call, list: &List, random: &mut Random) {
     match (call.kind, random.below(6)) {
         (Kind::Plan, 0) => plan_lengths(call, random),
         (Kind::Put, 0..=1) => put(call, list.depth, random),
+        (Kind::Journalled, 0) => journal::length(call, random),
+        (Kind::Journalled, 1) => anchor::raised_length(call, random),
+        (Kind::Recover, 0..=3) => journal::other(call, list, random),
         _ => shared(call, list, random),
     }
 }
@@ -28,9 +34,9 @@ fn shared(call: &mut Call, list: &List, random: &mut Random) {
         6 => call.index = beyond(call.index, list.depth, random),
         7 => block_length(call, random),
         8 => ranges_length(call, list.depth, random),
-        9 => anchor_length(call, random),
-        10 => anchor_depth(call, random),
-        _ => anchor_numbers(call, list, random),
+        9 => anchor::length(call, random),
+        10 => anchor::depth(call, random),
+        _ => anchor::numbers(call, list, random),
     }
 }
 
@@ -212,68 +218,4 @@ fn node(node: u64, depth: u64, random: &mut Random) -> u64 {
         random.word(),
     ];
     pick(random, &choices)
-}
-
-/// An anchor of another length.
-fn anchor_length(call: &mut Call, random: &mut Random) {
-    let any = random.below(80);
-    let length = pick(random, &[0, 16, 24, 31, 33, 40, 64, any]);
-    call.anchor.resize(length, 0);
-}
-
-/// An anchor with another depth, mostly one beyond the limit.
-fn anchor_depth(call: &mut Call, random: &mut Random) {
-    if call.anchor.len() != 32 {
-        return;
-    }
-    let depth = cards::depth(&call.anchor);
-    let any = random.word() >> random.below(64);
-    let within = 1 + random.below(16) as u64;
-    let beyond = [
-        0,
-        17,
-        18,
-        64,
-        depth.wrapping_add(1 << 8),
-        depth.wrapping_add(1 << 32),
-        1 << 63,
-        u64::MAX,
-        any,
-        within,
-        within,
-        within,
-    ];
-    cards::set_depth(&mut call.anchor, pick(random, &beyond));
-}
-
-/// An anchor with another key or root nonce; the card is made right for it in half of the cases. Under the list's own anchor
-/// that would be a forgery.
-fn anchor_numbers(call: &mut Call, list: &List, random: &mut Random) {
-    if call.anchor.len() != 32 {
-        return;
-    }
-    let depth = list.depth;
-    let (root, last) = (cards::root(&call.anchor), cards::last_root(depth));
-    let near_the_end = last - depth * random.below(3) as u64;
-    let choices = [
-        root.wrapping_add(1),
-        root.wrapping_add(depth),
-        root.wrapping_sub(depth),
-        root,
-        last,
-        near_the_end,
-        near_the_end,
-        near_the_end - 1,
-        u64::MAX,
-        random.word(),
-        random.word() / depth * depth,
-    ];
-    cards::set_root(&mut call.anchor, pick(random, &choices));
-    if random.below(8) == 0 {
-        call.anchor[random.below(16)] ^= 1 << random.below(8);
-    }
-    let fits = cards::depth(&call.anchor) == depth && call.card.len() == list.card.len();
-    if fits && call.anchor != list.anchor && random.below(2) == 0 {
-        cards::restamp(&call.anchor, &mut call.card);
-    }
 }

@@ -4,7 +4,7 @@ use crate::call::{Answer, Call, Kind};
 use std::collections::BTreeSet;
 
 /// The column of another length of what only C has in bytes, which is refused 5 before the rest.
-const LENGTHS: usize = 10;
+const LENGTHS: usize = 11;
 
 /// The counts, and the nodes that refusal 8 named.
 #[derive(Default)]
@@ -68,11 +68,11 @@ impl Tally {
     pub fn print(&self, title: &str) {
         println!("{title}: {} calls", self.calls());
         println!(
-            "         accepted and refusals 1 to 9, then other lengths of what only C has in bytes"
+            "             accepted and refusals 1 to 10, then other lengths of what only C has in bytes"
         );
         for kind in Kind::ALL {
             println!(
-                "  {:7}{:?}",
+                "  {:10} {:?}",
                 format!("{kind:?}"),
                 self.counts[kind as usize]
             );
@@ -89,5 +89,7 @@ fn answers(kind: Kind) -> &'static [usize] {
         Kind::Check => &[0, 1, 2, 3, 8, LENGTHS],
         Kind::Wipe => &[0, 1, 2, 3, 7, LENGTHS],
         Kind::Put => &[0, 1, 2, 3, 9, LENGTHS],
+        Kind::Journalled => &[0, 1, 2, 3, 4, 5, 6, 7, 8, 10, LENGTHS],
+        Kind::Recover => &[0, 1, 2, 3, 10, LENGTHS],
     }
 }

@@ -3,7 +3,7 @@
 
 use bindings::count;
 use reference::host;
-use reference::tree::{layout, Node};
+use reference::tree::{layout, Anchor, Node};
 use tests::call::{Answer, Call, Kind};
 use tests::cards;
 use tests::guarded::Guarded;
@@ -19,11 +19,11 @@ const LEAF: u64 = 5;
 /// What an accepted call carries at depth n.
 fn accepted(kind: Kind, n: u64) -> u64 {
     match kind {
-        Kind::Format | Kind::Put => panic!("a {kind:?} carries none"),
         Kind::Read => 2 * n + 4,
         Kind::Write => 8 * n + 8,
         Kind::Plan => 4 * n + 2,
         Kind::Check | Kind::Wipe => 7 * (1 << n) - 3,
+        _ => panic!("a {kind:?} carries none"),
     }
 }
 
@@ -177,19 +177,25 @@ fn limits_that_fail() {
 
 /// Makes the call through the probe with a key of its own, on bytes between guards.
 fn probe(call: &mut Call, key: &[u8]) -> u64 {
-    let anchor = (key, cards::depth(&call.anchor), cards::root(&call.anchor));
+    let Anchor {
+        depth,
+        root,
+        reserved,
+        ..
+    } = cards::parsed(&call.anchor);
+    let anchor = (key, depth, root, reserved);
     let mut card = Guarded::holding(&call.card);
     let mut block = Guarded::holding(&call.block);
     let mut ranges = Guarded::holding(&call.ranges);
     let mut messages = Guarded::holding(&call.messages);
     let (on, of, into) = (card.part(), block.part(), ranges.part());
     let count = match call.kind {
-        Kind::Format | Kind::Put => panic!("a {:?} has no probe", call.kind),
         Kind::Read => count::read(anchor, on, call.index, of),
         Kind::Write => count::write(anchor, on, call.index, of, into),
         Kind::Plan => count::plan(anchor, on, call.index, of, into, messages.part()),
         Kind::Check => count::check(anchor, on),
         Kind::Wipe => count::wipe(anchor, on),
+        _ => panic!("a {:?} has no probe", call.kind),
     };
     call.card = card.into_part("card");
     call.block = block.into_part("block");

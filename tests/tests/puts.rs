@@ -21,6 +21,15 @@ fn due(call: &Call) -> Answer {
     }
 }
 
+/// The anchor after an accepted put: T is the plan's root nonce if now every place is filled, H stays.
+fn due_anchor(call: &Call, plan: &[u8]) -> Vec<u8> {
+    let (mut anchor, places) = (call.anchor.clone(), 2 * cards::depth(&call.anchor));
+    if plans::filled(plan) | !0 << places == !0 {
+        cards::set_root(&mut anchor, plans::root(plan));
+    }
+    anchor
+}
+
 /// How often a put was accepted and refused.
 #[derive(Default, Debug)]
 struct Seen {
@@ -32,8 +41,12 @@ impl Seen {
     /// Makes the put, which has to answer what is due.
     #[track_caller]
     fn put(&mut self, call: &Call) {
-        let answer = due(call);
-        assert_eq!(call.clone().both(), answer, "{}", call.short());
+        let (answer, mut after) = (due(call), call.clone());
+        assert_eq!(after.both(), answer, "{}", call.short());
+        if answer.accepted() {
+            let anchor = due_anchor(call, &after.plan);
+            assert_eq!(after.anchor, anchor, "{}", call.short());
+        }
         match answer.accepted() {
             true => self.accepted += 1,
             false => self.refused += 1,

@@ -37,7 +37,8 @@ fn singles_and_pairs() {
                 .collect();
             for (at, &one) in all.iter().enumerate() {
                 expect(&list, kind, &[one], &mut random, &mut tally);
-                for &other in all[at..].iter().filter(|other| other.0 != one.0) {
+                let others = all[at..].iter().filter(|other| other.0 != one.0);
+                for &other in others.filter(|&&other| limits::possible(depth, &[one, other])) {
                     expect(&list, kind, &[one, other], &mut random, &mut tally);
                 }
             }
@@ -78,12 +79,13 @@ fn only_the_depth() {
         key: [0x2a; 16],
         depth,
         root: 0,
+        reserved: 0,
     };
     let (cmac, mut card) = (Cmac::new(&anchor.key), vec![0; layout::card_bytes(depth)]);
     for node in layout::nodes(depth) {
         messages::put_tag(&cmac, &anchor, &mut card, node);
     }
-    let mut call = lent(Call::on(cards::anchor(&anchor.key, depth, 0), card));
+    let mut call = lent(Call::on(cards::anchor(&anchor.key, depth, 0, 0), card));
     call.block = vec![3; 64];
     call.ranges = vec![4; 16 * 17];
     for kind in Kind::ALL {
@@ -99,6 +101,8 @@ fn lent(call: Call) -> Call {
         messages: vec![5; host::MESSAGES_BYTES],
         node: 2,
         tag: vec![6; layout::TAG_BYTES],
+        raised: vec![7; host::ANCHOR_BYTES],
+        journal: vec![8; 56 * 17 + 80],
         ..call
     }
 }
@@ -106,7 +110,7 @@ fn lent(call: Call) -> Call {
 /// Depth 0 by its own formula: 56 bytes and one block.
 #[test]
 fn depth_0() {
-    let mut call = lent(Call::on(cards::anchor(&[0x2a; 16], 0, 0), vec![0; 56]));
+    let mut call = lent(Call::on(cards::anchor(&[0x2a; 16], 0, 0, 0), vec![0; 56]));
     call.block = vec![3; 64];
     for kind in Kind::ALL {
         call.kind = kind;
@@ -124,8 +128,8 @@ fn empty_slices() {
             ..nothing.clone()
         };
         assert_eq!(call.both(), Answer::plain(5), "{kind:?}");
-        call.anchor = vec![0; 32];
-        let bare = matches!(kind, Kind::Plan | Kind::Put);
+        call.anchor = vec![0; 40];
+        let bare = matches!(kind, Kind::Plan | Kind::Put | Kind::Journalled);
         let number = if bare { 5 } else { 1 };
         assert_eq!(call.both(), Answer::plain(number), "{kind:?}");
         let mut call = lent(call);
@@ -139,13 +143,14 @@ fn every_other_length() {
     let mut random = Random::new(0x6c65_6e67);
     for depth in DEPTHS {
         let list = List::used(depth, &mut random);
-        for kind in [Kind::Plan, Kind::Put] {
+        for kind in [Kind::Plan, Kind::Put, Kind::Journalled] {
             let call = list.call(kind, 1, &mut random);
-            let parts: [fn(&mut Call) -> &mut Vec<u8>; 4] = [
+            let parts: [fn(&mut Call) -> &mut Vec<u8>; 5] = [
                 |call| &mut call.anchor,
                 |call| &mut call.plan,
                 |call| &mut call.messages,
                 |call| &mut call.tag,
+                |call| &mut call.raised,
             ];
             for part in parts {
                 let wanted = part(&mut call.clone()).len();

@@ -1,4 +1,5 @@
-//! Document 01's table, rows a to k, through the archive.
+//! Document 01's table, rows a to k, through the archive; and rows f, h and i with a reserved nonce above the root nonce, which
+//! document 02 adds.
 
 use bindings::pat;
 use tests::cards;
@@ -8,7 +9,7 @@ const BLOCK: [u8; 64] = [0x81; 64];
 
 /// A formatted card of that depth and its anchor.
 fn formatted(depth: u64, length: usize) -> (Vec<u8>, Vec<u8>) {
-    let (mut anchor, mut card) = (cards::anchor(&KEY, depth, 0), vec![0xa5; length]);
+    let (mut anchor, mut card) = (cards::anchor(&KEY, depth, 0, 0), vec![0xa5; length]);
     assert_eq!(pat::format(&mut anchor, &mut card), 0, "depth {depth}");
     (anchor, card)
 }
@@ -97,7 +98,7 @@ fn row_g() {
 fn row_h() {
     let (mut anchor, mut card) = formatted(2, 368);
     for (root, number) in [(u64::MAX - 3, 0), (u64::MAX - 1, 7)] {
-        cards::set_root(&mut anchor, root);
+        cards::set_nonces(&mut anchor, root);
         cards::restamp(&anchor, &mut card);
         assert_eq!(answers(&anchor, &card), [0, 0, number, number]);
     }
@@ -107,7 +108,7 @@ fn row_h() {
 #[test]
 fn row_i() {
     let (mut anchor, mut card) = formatted(2, 368);
-    cards::set_root(&mut anchor, 3);
+    cards::set_nonces(&mut anchor, 3);
     cards::restamp(&anchor, &mut card);
     assert_eq!(answers(&anchor, &card), [2; 4]);
 }
@@ -133,5 +134,74 @@ fn row_k() {
         let (mut lent, mut written) = (anchor.clone(), card.clone());
         let answer = pat::write(&mut lent, &mut written, index, &BLOCK, &mut [0; 32]);
         assert_eq!(answer, number);
+    }
+}
+
+/// What a plan, a journalled write, a recovery and a put answer.
+fn more_answers(anchor: &[u8], card: &[u8]) -> [u64; 4] {
+    let lent = || (anchor.to_vec(), card.to_vec());
+    let ((mut one, mut planned), (mut other, mut written)) = (lent(), lent());
+    let (mut ranges, mut plan, mut journal) = ([0; 32], [0; 24], [0; 192]);
+    let (mut messages, mut raised) = ([0; 656], [0; 40]);
+    let (plan, messages) = (&mut plan, &mut messages);
+    let planned = pat::plan(
+        &mut one,
+        &mut planned,
+        0,
+        &BLOCK,
+        &mut ranges,
+        plan,
+        messages,
+    );
+    let (raised, journal) = (&mut raised, &mut journal);
+    let journalled = pat::write_journalled(
+        &mut other,
+        raised,
+        &mut written,
+        0,
+        &BLOCK,
+        &mut ranges,
+        journal,
+    );
+    let (mut last, mut card) = lent();
+    let recovered = pat::recover(anchor, &mut card, journal);
+    let put = pat::put_tag(&mut last, &mut [0; 24], &mut card, 2, &[0; 16]);
+    [planned, journalled, recovered, put]
+}
+
+/// Row f from T = 0 and H = 6: the nonces below 9, and T and H are 9.
+#[test]
+fn row_f_after_lost_attempts() {
+    let (mut anchor, mut card) = formatted(3, 784);
+    cards::set_reserved(&mut anchor, 6);
+    let answer = pat::write(&mut anchor, &mut card, 5, &BLOCK, &mut [0; 48]);
+    assert_eq!(answer, 0);
+    let nonces: Vec<u64> = (2..8).map(|node| nonce(&card, node)).collect();
+    assert_eq!(nonces, [0, 8, 0, 0, 7, 0]);
+    assert_eq!([cards::root(&anchor), cards::reserved(&anchor)], [9, 9]);
+    assert_eq!(pat::check(&anchor, &card), 0);
+}
+
+/// Row h with T = 0: the reserved nonce alone decides whether a write fits.
+#[test]
+fn row_h_by_the_reserved_nonce() {
+    let (mut anchor, card) = formatted(2, 368);
+    for (reserved, number) in [(u64::MAX - 3, 0), (u64::MAX - 1, 7)] {
+        cards::set_reserved(&mut anchor, reserved);
+        assert_eq!(answers(&anchor, &card), [0, 0, number, number]);
+        assert_eq!(more_answers(&anchor, &card), [number, number, 0, 0]);
+    }
+}
+
+/// Row i with T = 2: a reserved nonce that is no multiple of the depth, or below T.
+#[test]
+fn row_i_of_the_reserved_nonce() {
+    let (mut anchor, mut card) = formatted(2, 368);
+    cards::set_nonces(&mut anchor, 2);
+    cards::restamp(&anchor, &mut card);
+    for (reserved, number) in [(0, 2), (1, 2), (2, 0), (3, 2), (4, 0), (5, 2)] {
+        cards::set_reserved(&mut anchor, reserved);
+        assert_eq!(answers(&anchor, &card), [number; 4], "{reserved}");
+        assert_eq!(more_answers(&anchor, &card), [number; 4], "{reserved}");
     }
 }

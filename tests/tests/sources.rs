@@ -4,7 +4,7 @@
 use std::path::{Path, PathBuf};
 
 /// The crates between the cipher and C.
-const PRODUCT: [&str; 13] = [
+const PRODUCT: [&str; 16] = [
     "cmac",
     "tree",
     "card",
@@ -14,8 +14,11 @@ const PRODUCT: [&str; 13] = [
     "plan",
     "messages",
     "split",
+    "journal",
+    "recovery",
     "host_bytes",
     "host_split",
+    "host_journal",
     "pat",
     "pat_c",
 ];
@@ -62,27 +65,41 @@ fn files_with(words: &str) -> Vec<String> {
 fn the_cipher_has_one_caller() {
     assert_eq!(files_with(".encrypt("), ["cmac/lib.rt"]);
     let lines = lines();
-    let at = lines.iter().position(|(_, line)| line.contains(".encrypt("));
+    let at = lines
+        .iter()
+        .position(|(_, line)| line.contains(".encrypt("));
     let behind = &lines[at.expect("the call") + 1].1;
     assert_eq!(behind, "count += 1;");
 }
 
-/// Bytes are tagged in two places: for the subkeys, and of a node's message. A message is tagged to be compared, and to be put.
+/// Bytes are tagged for the subkeys, of a node's message and of a journal's. A node's is tagged to be compared, and to be put; so is a
+/// journal's, and both times its count is left.
 #[test]
-fn tags_are_made_in_two_places() {
+fn tags_are_made_of_messages_and_journals() {
     let callers = files_with("context.tag(");
-    assert_eq!(callers, ["cmac/lib.rt", "card/message.rt"]);
+    let journals = ["recovery/within.rt"; 2];
+    assert_eq!(callers[..2], ["cmac/lib.rt", "card/message.rt"]);
+    assert_eq!(callers[2..], journals);
+    for message in ["filled.message()).value", "journal.message()).value"] {
+        let made = format!("context.tag({message}");
+        assert_eq!(files_with(&made), journals[..1], "{made}");
+    }
     let messages = files_with(".tag(context)");
     assert_eq!(messages, ["card/view.rt", "stamp/lib.rt"]);
     let all = files_with(".tag(");
     assert_eq!(all.len(), callers.len() + messages.len());
 }
 
-/// A context is made once in each of read, write, check, the making of an empty card and a plan, and each of these is handed to once.
+/// A context is made once in each of read, write, check, the making of an empty card, a plan, a journalled write and a recovery, and
+/// each of these is handed to once.
 #[test]
 fn each_call_makes_one_context() {
     let mut makers = vec!["work/lib.rt"; 4];
-    makers.push("split/within.rt");
+    makers.extend([
+        "split/within.rt",
+        "recovery/within.rt",
+        "recovery/within.rt",
+    ]);
     assert_eq!(files_with("Context::new("), makers);
     for work in ["blank", "read", "write", "check", "wipe"] {
         let call = format!("work::{work}(");
@@ -91,16 +108,20 @@ fn each_call_makes_one_context() {
     assert_eq!(files_with("within::plan("), ["split/lib.rt"]);
     assert_eq!(files_with("new.lay("), ["split/within.rt"]);
     // pat's is host_split::plan.
-    assert_eq!(files_with("split::plan("), ["host_split/lib.rt", "pat/lib.rt"]);
+    assert_eq!(
+        files_with("split::plan("),
+        ["host_split/lib.rt", "pat/lib.rt"]
+    );
     assert_eq!(files_with("host_split::plan("), ["pat/lib.rt"]);
-    for part in [
-        "walk::path(",
-        "walk::all(",
-        "new.stamp(",
-        "stamp::blank(",
-    ] {
+    for part in ["walk::path(", "walk::all(", "new.stamp(", "stamp::blank("] {
         assert_eq!(files_with(part), ["work/lib.rt"], "{part}");
     }
+    let within = ["work/lib.rt", "recovery/within.rt"];
+    assert_eq!(files_with("write_under(&context, "), within);
+    assert_eq!(files_with("within::write("), ["recovery/lib.rt"]);
+    assert_eq!(files_with("within::recover("), ["recovery/lib.rt"]);
+    assert_eq!(files_with("recovery::write("), ["host_journal/lib.rt"]);
+    assert_eq!(files_with("recovery::recover("), ["host_journal/lib.rt"]);
     let pairs = files_with("walk::pairs(");
     assert_eq!(pairs, ["work/lib.rt", "split/within.rt"]);
 }
@@ -157,7 +178,7 @@ fn exports_pass_on_to_what_is_proved() {
         functions_for_c("pat/lib.rt"),
         functions_for_c("pat_c/lib.rt"),
     );
-    assert_eq!(exports.len(), 8);
+    assert_eq!(exports.len(), 10);
     let heads = |functions: &[Function]| -> Vec<String> {
         functions.iter().map(|it| it.head.clone()).collect()
     };

@@ -1,5 +1,5 @@
-//! Wipes: after every short history each card that has nodes of before among the wiped ones, cards of any bytes, cards that were
-//! stored in part, and nonces up to the last.
+//! Wipes: after every short history each card that has nodes of before among the wiped ones, cards of any bytes, and cards that were
+//! stored in part.
 
 use bindings::pat;
 use reference::tree::{layout, Node};
@@ -235,36 +235,6 @@ fn stored_in_part() {
     }
 }
 
-/// Writes and wipes up to the last nonce: then both are refused with 7, and reads and checks go on.
-#[test]
-fn nonces_spent() {
-    let mut random = Random::new(0x7370_656e);
-    for depth in 1..=16 {
-        for room in 1..=if depth < 9 { 3 } else { 1 } {
-            let mut list = List::new(depth, &mut random).moved_before(u64::MAX, room);
-            for turn in 1..=room {
-                match turn == room || turn % 2 == 0 {
-                    true => list.wipe(&mut random),
-                    false => list.write(1, &mut random),
-                }
-            }
-            assert_eq!(cards::root(&list.anchor), cards::last_root(depth));
-            for (kind, number) in [
-                (Kind::Wipe, 7),
-                (Kind::Write, 7),
-                (Kind::Read, 0),
-                (Kind::Check, 0),
-            ] {
-                let before = list.call(kind, 1, &mut random);
-                let mut call = before.clone();
-                let answer = call.both();
-                assert_eq!(answer, Answer::plain(number), "{}", call.short());
-                list.judge(&before, &call, answer);
-            }
-        }
-    }
-}
-
 /// The same is left wherever in memory anchor and card start.
 #[test]
 fn any_alignment() {
@@ -275,7 +245,7 @@ fn any_alignment() {
     let mut space = vec![0; 4_096];
     for shift in 0..64 {
         let (first, second) = space.split_at_mut(128);
-        let lent = &mut first[shift..][..32];
+        let lent = &mut first[shift..][..40];
         let moved = &mut second[3 * shift + 1..][..card.len()];
         lent.copy_from_slice(&list.anchor);
         moved.copy_from_slice(&list.card);

@@ -3,7 +3,7 @@
 use super::store::{touch, Block, Store};
 use crate::subject::KEY;
 use bindings::pat;
-use reference::host;
+use reference::host::{self, ANCHOR_BYTES};
 use std::rc::Rc;
 
 /// The bytes of the longest list of ranges.
@@ -93,7 +93,7 @@ calls!(
 /// A card with its anchor.
 pub struct Card {
     calls: Rc<dyn Calls>,
-    pub anchor: [u8; 32],
+    pub anchor: [u8; ANCHOR_BYTES],
     pub card: Vec<u8>,
     buffer: Block,
     pub ranges: [u8; RANGES],
@@ -102,7 +102,7 @@ pub struct Card {
 impl Card {
     /// A card of that depth, not yet formatted.
     pub fn new(calls: Rc<dyn Calls>, depth: u32) -> Self {
-        let mut anchor = [0; 32];
+        let mut anchor = [0; ANCHOR_BYTES];
         anchor[..16].copy_from_slice(&KEY);
         anchor[16..24].copy_from_slice(&u64::from(depth).to_be_bytes());
         Card {

@@ -25,11 +25,11 @@ use Rattle.plan.specs.Orders.{message_for, in_turn, returned}
 use Rattle.replay.specs.Run.{call, split, State, start, next}
 
 -- sixteen times a checksum
-abbrev sum : List ℕ → ℕ
+abbrev pub sum : List ℕ → ℕ
 sum [] = 0
 sum (x ∷ xs) = (x + 3 * sum xs + 1) % 256
 
-abbrev checksum : List ℕ → List ℕ
+abbrev pub checksum : List ℕ → List ℕ
 checksum m = replicate 16 (sum m)
 
 abbrev pub new_block : List ℕ
@@ -42,7 +42,7 @@ zero_block = replicate 64 0
 abbrev older : ℕ → List ℕ → List ℕ → ℕ → List ℕ
 older n old card u = sets card (offset n u) (part old (offset n u) (size n u + 16))
 
-abbrev answer : Anchor → List ℕ → Call → Answer
+abbrev pub answer : Anchor → List ℕ → Call → Answer
 answer a card c = (outcome checksum a card c).answer
 
 pub record History : Type 0 where
@@ -68,10 +68,10 @@ around n s c i u w =
       given = (outcome checksum a new reading).lent;
     }
 
-abbrev formatted : ℕ → State
+abbrev pub formatted : ℕ → State
 formatted n = start checksum (replicate 16 0) n (replicate (card_length n) 0)
 
-abbrev writing : ℕ → ℕ → Call
+abbrev pub writing : ℕ → ℕ → Call
 writing n i = write i new_block (replicate (16 * n) 0)
 
 -- A card of depth n is formatted, and block i is written on it;
@@ -99,18 +99,18 @@ refused_at block old_read old_check mixed_read mixed_check =
 pub computed : (history 1 0 2 3 ≡ refused_at new_block 2 2 2 2)
     × (history 2 2 3 6 ≡ refused_at new_block 3 2 3 3)
     × (history 3 5 6 13 ≡ refused_at new_block 3 2 6 6)
-unfolding start next moved format format_answer zeroed limits first_failing checks outcome answer_of first_wrong blanked written stamped put_each
-    labels blank_labels new_labels raised all_nodes up_to path_node sibling path pairs pairs_but_leaf be size offset label tag form same ranges_to
-    encode
+unfolding start next moved format format_answer zeroed limits first_failing checks outcome answer_of first_wrong blanked written stamped
+    put_each labels blank_labels new_labels raised all_nodes up_to path_node sibling path pairs pairs_but_leaf be size offset label tag form
+    same ranges_to encode
 computed = (refl, refl, refl)
 
 -- After a wipe the block is zero, and neither the card of before nor two nodes of it are accepted.
 pub wipe-computed : (wiped_history 1 0 2 3 ≡ refused_at zero_block 2 2 2 2)
     × (wiped_history 2 2 3 6 ≡ refused_at zero_block 3 2 3 3)
     × (wiped_history 3 5 6 13 ≡ refused_at zero_block 3 2 6 6)
-unfolding start next moved format format_answer zeroed limits first_failing checks outcome answer_of first_wrong blanked written stamped put_each
-    labels blank_labels new_labels raised all_nodes up_to path_node sibling path pairs pairs_but_leaf be size offset label tag form same ranges_to
-    encode
+unfolding start next moved format format_answer zeroed limits first_failing checks outcome answer_of first_wrong blanked written stamped
+    put_each labels blank_labels new_labels raised all_nodes up_to path_node sibling path pairs pairs_but_leaf be size offset label tag form
+    same ranges_to encode
 wipe-computed = (refl, refl, refl)
 
 -- Around the untouched half, at depth 2: a write of block 0 on a card on which block 3 was altered, which it does not check.
@@ -123,26 +123,26 @@ spoiled = next checksum (formatted 2) (call altered (writing 2 0))
 -- It is accepted, and a check of the card that it left names node 7.
 pub touched-computed : (answer (formatted 2).store.anchor altered (writing 2 0) ≡ Whole)
     × (answer spoiled.store.anchor spoiled.store.left check ≡ Wrong (record { 0 = 7 }))
-unfolding start next moved format format_answer zeroed limits first_failing checks outcome answer_of first_wrong blanked written stamped put_each
-    labels blank_labels new_labels raised all_nodes up_to path_node sibling path pairs pairs_but_leaf be size offset label tag form same ranges_to
-    encode
+unfolding start next moved format format_answer zeroed limits first_failing checks outcome answer_of first_wrong blanked written stamped
+    put_each labels blank_labels new_labels raised all_nodes up_to path_node sibling path pairs pairs_but_leaf be size offset label tag form
+    same ranges_to encode
 touched-computed = (refl, refl)
 
 -- A wipe that is refused leaves it so,
 pub refused-computed : let s = next checksum spoiled (call (0 ∷ []) wipe) in
     (answer spoiled.store.anchor (0 ∷ []) wipe ≡ Refused CardLength)
     × (answer s.store.anchor s.store.left check ≡ Wrong (record { 0 = 7 }))
-unfolding start next moved format format_answer zeroed limits first_failing checks outcome answer_of first_wrong blanked written stamped put_each
-    labels blank_labels new_labels raised all_nodes up_to path_node sibling path pairs pairs_but_leaf be size offset label tag form same ranges_to
-    encode
+unfolding start next moved format format_answer zeroed limits first_failing checks outcome answer_of first_wrong blanked written stamped
+    put_each labels blank_labels new_labels raised all_nodes up_to path_node sibling path pairs pairs_but_leaf be size offset label tag form
+    same ranges_to encode
 refused-computed = (refl, refl)
 
 -- and one that is accepted mends it.
 pub mended-computed : let s = next checksum spoiled (call spoiled.store.left wipe) in
     answer s.store.anchor s.store.left check ≡ Whole
-unfolding start next moved format format_answer zeroed limits first_failing checks outcome answer_of first_wrong blanked written stamped put_each
-    labels blank_labels new_labels raised all_nodes up_to path_node sibling path pairs pairs_but_leaf be size offset label tag form same ranges_to
-    encode
+unfolding start next moved format format_answer zeroed limits first_failing checks outcome answer_of first_wrong blanked written stamped
+    put_each labels blank_labels new_labels raised all_nodes up_to path_node sibling path pairs pairs_but_leaf be size offset label tag form
+    same ranges_to encode
 mended-computed = refl
 
 -- A split write, at depth 2: block 2 is planned, and the tags of nodes 6, 3, 2 and 7 come back in this order, the first of them twice.
@@ -166,10 +166,11 @@ twice (x ∷ xs) =
 abbrev together : State
 together = next checksum (formatted 2) (split (formatted 2).store.left 2 new_block (replicate 32 0) (twice tags_back))
 
--- what each of some puts answers, and the anchor's root nonce and the filled places after it
+-- what each of some puts answers, and the anchor's nonces and the filled places after it
 pub record Seen : Type 0 where
   pub answer : Answer
   pub root : ℕ
+  pub reserved : ℕ
   pub filled : ℕ
 
 abbrev seen : Going → List PutStep → List Seen
@@ -179,23 +180,26 @@ seen g (x ∷ xs) =
     record {
       answer = (put g.anchor g.plan x.card x.node x.tag).answer;
       root = h.anchor.root.0;
+      reserved = h.anchor.reserved.0;
       filled = h.plan.filled;
     } ∷ seen h xs
 
--- It leaves what the plain write does, the second put of node 6 is refused with 9, and the last put alone brings the new anchor. Nodes 2, 3,
--- 6 and 7 have the bits 1, 2, 4 and 8.
+-- It leaves what the plain write does, the second put of node 6 is refused with 9, and the last put alone brings the new root nonce, which
+-- the plan reserved. Nodes 2, 3, 6 and 7 have the bits 1, 2, 4 and 8.
 pub split-computed : let s = (formatted 2).store in
     let o = planned checksum s.anchor s.left 2 new_block (replicate 32 0) in
     let g = begun o in
     (together.store ≡ (next checksum (formatted 2) (call s.left (writing 2 2))).store)
     × (o.call.answer ≡ Whole)
     × (seen g (twice tags_back)
-    ≡ record { answer = Whole; root = 0; filled = 4 } ∷ record { answer = Refused NotAwaited; root = 0; filled = 4 }
-    ∷ record { answer = Whole; root = 0; filled = 6 } ∷ record { answer = Whole; root = 0; filled = 7 }
-    ∷ record { answer = Whole; root = 2; filled = 15 } ∷ [])
-unfolding start next moved format format_answer zeroed limits first_failing checks outcome answer_of first_wrong blanked written stamped put_each
-    labels blank_labels new_labels raised all_nodes up_to path_node sibling path pairs pairs_but_leaf be size offset label tag form same ranges_to
-    encode planned put put_answer plan_nodes member every place_in awaits fill full laid after_put after_all_puts message_for in_turn
+    ≡ record { answer = Whole; root = 0; reserved = 2; filled = 4 }
+    ∷ record { answer = Refused NotAwaited; root = 0; reserved = 2; filled = 4 }
+    ∷ record { answer = Whole; root = 0; reserved = 2; filled = 6 } ∷ record { answer = Whole; root = 0; reserved = 2; filled = 7 }
+    ∷ record { answer = Whole; root = 2; reserved = 2; filled = 15 } ∷ [])
+unfolding start next moved format format_answer zeroed limits first_failing checks outcome answer_of first_wrong blanked written stamped
+    put_each labels blank_labels new_labels raised all_nodes up_to path_node sibling path pairs pairs_but_leaf be size offset label tag form
+    same ranges_to encode planned put put_answer plan_nodes member every place_in awaits fill full laid after_put after_all_puts message_for
+    in_turn
 split-computed = (refl, refl, refl)
 
 -- The same where somebody altered block 1 between the first put and the second: every put is accepted, and the array has moved once, but a
@@ -214,7 +218,8 @@ meddled =
 
 pub meddled-computed : (meddled.store.anchor.root.0 ≡ 2) × (block_at meddled.store.array 2 ≡ new_block)
     × (answer meddled.store.anchor meddled.store.left check ≡ Wrong (record { 0 = 5 }))
-unfolding start next moved format format_answer zeroed limits first_failing checks outcome answer_of first_wrong blanked written stamped put_each
-    labels blank_labels new_labels raised all_nodes up_to path_node sibling path pairs pairs_but_leaf be size offset label tag form same ranges_to
-    encode planned put put_answer plan_nodes member every place_in awaits fill full laid after_put after_all_puts message_for in_turn
+unfolding start next moved format format_answer zeroed limits first_failing checks outcome answer_of first_wrong blanked written stamped
+    put_each labels blank_labels new_labels raised all_nodes up_to path_node sibling path pairs pairs_but_leaf be size offset label tag form
+    same ranges_to encode planned put put_answer plan_nodes member every place_in awaits fill full laid after_put after_all_puts message_for
+    in_turn
 meddled-computed = (refl, refl, refl)

@@ -108,6 +108,11 @@ pub whole_code : code_of Whole ≡ 0
 unfolding code_of
 whole_code = refl
 
+pub not-whole : (x : Answer) → (x ≡ Whole → ⊥) → is_whole x ≡ false
+not-whole Whole d = absurd (d refl)
+not-whole (Wrong u) d = refl
+not-whole (Refused r) d = refl
+
 -- and to an anchor of another length no call says it
 measured-zero : (anchor card lent : List ℕ) (h : Host) (e left filled : List ℕ) → Hosts (measured anchor card lent h) 0 e left filled
     → length anchor ≡ anchor_bytes
@@ -155,7 +160,7 @@ hosted-refused moves s o d = go o.answer moves d
     go (Refused r) true d = refl
     go (Refused r) false d = refl
 
-measured-refused : (s card lent : List ℕ) (moves : Bool) (o : Outcome) → Leaves card lent o → (code : ℕ) (e left filled : List ℕ)
+pub measured-refused : (s card lent : List ℕ) (moves : Bool) (o : Outcome) → Leaves card lent o → (code : ℕ) (e left filled : List ℕ)
     → Hosts (measured s card lent (hosted moves s o)) code e left filled → (code ≡ 0 → ⊥) → (e ≡ s) × (left ≡ card) × (filled ≡ lent)
 measured-refused s card lent moves o leaves code e left filled g d =
     ⊎_elim

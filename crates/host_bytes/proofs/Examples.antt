@@ -11,9 +11,11 @@ use Rattle.tree.specs.Numbers.{be}
 use Rattle.tree.specs.Calls.{Call, lent_to}
 use Rattle.plan.specs.declared.Plan.{Plan}
 use Rattle.host_bytes.specs.Host.{number, anchor_of, code_of, host_call, host_format, Hosts}
+use Rattle.host_bytes.specs.Journal.{host_journalled, HostsJournalled, host_recovery}
 use Rattle.host_bytes.specs.Split.{plan_of, bytes_of, host_plan, HostsPlan, host_put, HostsPut}
 use Rattle.host_bytes.proofs.HostLaws.{measured-out}
 use Rattle.host_bytes.proofs.SplitLaws.{plan-unmeasured, put-unmeasured}
+use Rattle.host_bytes.proofs.JournalTripLaws.{journalled-unmeasured}
 
 -- key, then n in 8 bytes, then T in 8, then H in 8, big-endian
 pub anchor-bytes : anchor_of (replicate 16 7 ++ (0 ∷ 0 ∷ 0 ∷ 0 ∷ 0 ∷ 0 ∷ 0 ∷ 10 ∷ 1 ∷ 2 ∷ 3 ∷ 4 ∷ 5 ∷ 6 ∷ 7 ∷ 8 ∷ 0 ∷ 2 ∷ 0 ∷ 0 ∷ 0 ∷ 0 ∷ 0 ∷ 9 ∷ []))
@@ -61,3 +63,12 @@ plan-lengths s card i block ranges b messages d = plan-unmeasured s card i block
 pub put-lengths : (s b card : List ℕ) (u : ℕ) (tag : List ℕ) → ((length s ≡ 40) × (length b ≡ 24) × (length tag ≡ 16) → ⊥)
     → HostsPut (host_put s b card u tag) 5 s b card
 put-lengths s b card u tag d = put-unmeasured s b card u tag d
+
+-- the same of the anchor that is stored first, which is as long as the anchor, and of a recovery's anchor
+pub journal-lengths : (s r card : List ℕ) (i : ℕ) (block ranges journal : List ℕ) → ((length s ≡ 40) × (length r ≡ 40) → ⊥)
+    → HostsJournalled (host_journalled s r card i block ranges journal) 5 s r card ranges journal
+journal-lengths s r card i block ranges journal d = journalled-unmeasured s r card i block ranges journal d
+
+pub recovery-length : (s card journal : List ℕ) → (length s ≡ 40 → ⊥) → Hosts (host_recovery s card journal) 5 s card []
+unfolding host_recovery
+recovery-length s card journal d = measured-out s card [] _ d

@@ -3,6 +3,8 @@ pub mod Sizes
 pub mod StoredLaws
 pub mod AnchorLaws
 pub mod SplitLaws
+pub mod JournalledLaws
+pub mod JournalTripLaws
 pub mod PlanBytesLaws
 pub mod SplitTripLaws
 pub mod Examples

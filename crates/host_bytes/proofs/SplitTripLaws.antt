@@ -28,16 +28,11 @@ use Rattle.host_bytes.specs.Host.{anchor_bytes, refused_length, anchor_of, with_
 use Rattle.host_bytes.specs.Split.{plan_bytes, plan_of, bytes_of, tag_bytes, HostPlan, hosted_plan, host_plan, HostsPlan}
 use Rattle.host_bytes.specs.Split.{HostPut, root_moved, hosted_put, host_put, HostsPut}
 use Rattle.host_bytes.specs.RoundTrip.{Stands, StandsPlan, SplitTrip}
-use Rattle.host_bytes.proofs.AnchorLaws.{put-stands, reserve-stands, code-whole, whole_code, outcome-leaves}
+use Rattle.host_bytes.proofs.AnchorLaws.{put-stands, reserve-stands, code-whole, whole_code, not-whole, outcome-leaves}
 use Rattle.host_bytes.proofs.SplitLaws.{lengths, host-plan, host-put}
 use Rattle.host_bytes.proofs.PlanBytesLaws.{bytes-stand, filled-stand}
 
 -- The plan
-
-not-whole : (x : Answer) → (x ≡ Whole → ⊥) → is_whole x ≡ false
-not-whole Whole d = absurd (d refl)
-not-whole (Wrong u) d = refl
-not-whole (Refused r) d = refl
 
 -- no messages are none in the buffer
 none-given : {buffer : List ℕ} → joined [] ++ drop (length (joined [])) buffer ≡ buffer

@@ -6,7 +6,10 @@ use Rattle.tree.specs.Calls.{Call, lent_to, outcome, format}
 use Rattle.tree.specs.declared.Anchor.{Anchor}
 use Rattle.plan.specs.Split.{planned, joined, message_room, put}
 use Rattle.plan.specs.declared.Plan.{Plan}
+use Rattle.journal.specs.Journalled.{journalled}
+use Rattle.journal.specs.Recovery.{recovered}
 use Rattle.host_bytes.specs.Host.{anchor_bytes, anchor_of, code_of, host_call, host_format, Hosts, Codes}
+use Rattle.host_bytes.specs.Journal.{host_journalled, HostsJournalled, host_recovery}
 use Rattle.host_bytes.specs.Split.{plan_bytes, plan_of, tag_bytes, host_plan, HostsPlan, host_put, HostsPut}
 
 -- bytes of the right number that stand for the anchor a
@@ -65,3 +68,29 @@ pub record SplitTrip (s card b : List ℕ) : Type 0 where
       → (e ≡ s) × (made ≡ b) × (left ≡ card) × (filled ≡ ranges) × (gave ≡ buffer)
   pub put_refused : (u : ℕ) (tag : List ℕ) (code : ℕ) (e made left : List ℕ) → HostsPut (host_put s b card u tag) code e made left
       → (code ≡ 0 → ⊥) → (e ≡ s) × (made ≡ b) × (left ≡ card)
+
+-- Of pat_write_journalled and pat_recover that were given s as the anchor, and a card.
+pub record JournalTrip (s card : List ℕ) : Type 0 where
+  -- any journalled write leaves bytes that stand for the outcome's anchor, an accepted one also for the anchor that is stored first, and a
+  -- recovery leaves those that it was given
+  pub write-stored : length s ≡ anchor_bytes → (r : List ℕ) → length r ≡ anchor_bytes → (i : ℕ) (block ranges journal : List ℕ) (code : ℕ)
+      (e raised left filled kept : List ℕ)
+      → HostsJournalled (host_journalled s r card i block ranges journal) code e raised left filled kept →
+      let o = journalled (cmac_of (anchor_of s).key) (anchor_of s) card i block ranges journal in
+      Stands e o.call.anchor × (code ≡ 0 → Stands raised o.raised)
+  pub recovery-stored : (journal : List ℕ) (code : ℕ) (e left : List ℕ) → Hosts (host_recovery s card journal) code e left [] → e ≡ s
+  -- the answers are those of the write and of the recovery as one number, and card, ranges and journal are as these leave them
+  pub write-told : length s ≡ anchor_bytes → (r : List ℕ) → length r ≡ anchor_bytes → (i : ℕ) (block ranges journal : List ℕ) (code : ℕ)
+      (e raised left filled kept : List ℕ)
+      → HostsJournalled (host_journalled s r card i block ranges journal) code e raised left filled kept →
+      let o = journalled (cmac_of (anchor_of s).key) (anchor_of s) card i block ranges journal in
+      (code ≡ code_of o.call.answer) × (left ≡ o.call.card) × (filled ≡ o.call.lent) × (kept ≡ o.journal)
+  pub recovery-told : length s ≡ anchor_bytes → (journal : List ℕ) (code : ℕ) (e left : List ℕ)
+      → Hosts (host_recovery s card journal) code e left []
+      → Codes (recovered (cmac_of (anchor_of s).key) (anchor_of s) card journal) code (anchor_of e) left []
+  -- a refused one leaves every byte as it was, whatever the lengths
+  pub write-refused : (r : List ℕ) (i : ℕ) (block ranges journal : List ℕ) (code : ℕ) (e raised left filled kept : List ℕ)
+      → HostsJournalled (host_journalled s r card i block ranges journal) code e raised left filled kept → (code ≡ 0 → ⊥)
+      → (e ≡ s) × (raised ≡ r) × (left ≡ card) × (filled ≡ ranges) × (kept ≡ journal)
+  pub recovery-refused : (journal : List ℕ) (code : ℕ) (e left : List ℕ) → Hosts (host_recovery s card journal) code e left []
+      → (code ≡ 0 → ⊥) → (e ≡ s) × (left ≡ card)

@@ -1,12 +1,12 @@
--- A split write that is filled in C's own terms is complete in the list.
-use mathlib.Core.Path.{◌≡◌, refl, sym, ap, subst, ◌∙◌}
-use mathlib.Core.Bool.{Bool, true, false, cond}
+-- A split write in C's own terms: whether it stands, and that right tags are right in the list.
+use mathlib.Core.Path.{◌≡◌, refl, sym, ap, ap₂, subst, ◌∙◌}
+use mathlib.Core.Bool.{Bool, true, false, cond, ◌&&◌, ◌||◌}
 use mathlib.Core.List.Memᴰ
 use mathlib.Core.List.{List, [], ◌∷◌, ◌++◌, map, append_assoc, Memᴰ}
 use mathlib.Core.Logic.{◌⊎◌, inl, inr, ⊎_elim}
 use Prim.Native.Nat.{ℕ, ◌+◌}
 use native.Mathlib.Omega.{arith}
-use borrow.Author.Tests.{eqb-true, eqb-false}
+use borrow.Author.Tests.{eq-eqb, ne_eqb, eqb-true, eqb-false}
 use lib.Dec.{eqb}
 use lib.ListN.{length, take, drop}
 use lib.Seq.{take-append-le, drop_at, take_all}
@@ -15,7 +15,7 @@ use Rattle.cmac.specs.Cmac.{cmac_of}
 use Rattle.cmac.proofs.Laws.{length-cmac}
 use Rattle.tree.specs.Layout.{size}
 use Rattle.tree.specs.Labels.{Labels, message, labels}
-use Rattle.tree.specs.Calls.{write, answer_of}
+use Rattle.tree.specs.Calls.{write, answer_of, raise}
 use Rattle.tree.specs.declared.Anchor.{Anchor}
 use Rattle.tree.specs.Answer.{Whole}
 use Rattle.tree.proofs.ByteLaws.{length-be}
@@ -23,20 +23,20 @@ use Rattle.tree.proofs.LabelLaws.{labels-sized, new-root, new-sized}
 use Rattle.tree.proofs.LimitLaws.{Writes}
 use Rattle.tree.proofs.CountLaws.{length-message}
 use Rattle.tree.proofs.CallLaws.{accepted}
-use Rattle.plan.specs.Places.{plan_nodes, filled_at, fill, full}
+use Rattle.plan.specs.Places.{plan_nodes, every, filled_at, fill, full}
 use Rattle.plan.specs.Split.{Given, given, joined, Planned}
-use Rattle.plan.specs.Puts.{PutStep, Going, begun, after_put, after_all_puts, Placed, EachPut, PutRight}
-use Rattle.plan.proofs.PlaceLaws.{Awaited, fill-same, fill-other, is-full, plan-node}
-use Rattle.plan.proofs.PlanLaws.{plan-answer, labels_of, messages-are, given-for}
-use Rattle.plan.proofs.PutLaws.{put_in, PutMove, stood, took, put-move, Runs, runs-depth, runs-step, runs-all}
+use Rattle.plan.specs.Puts.{PutStep, Going, begun, after_put, after_all_puts, EachPut, PutRight}
+use Rattle.plan.proofs.PlaceLaws.{Awaited, fill-same, fill-other, none_filled, plan-node}
+use Rattle.plan.proofs.PlanLaws.{plan-answer, planned-done, labels_of, messages-are, given-for}
+use Rattle.plan.proofs.PutLaws.{put_in, put-answer, PutMove, stood, took, put-move, Runs, runs-depth, runs-step, runs-all}
 use Rattle.plan.proofs.OrderLaws.{begun-runs}
-use Rattle.replay.specs.Claim.{Completed}
+use Rattle.replay.specs.Run.{fills}
 use Rattle.host_bytes.specs.Host.{code_of}
 use Rattle.host_bytes.specs.RoundTrip.{Stands}
 use Rattle.host_bytes.proofs.AnchorLaws.{code-whole, whole_code}
 use Rattle.host_replay.specs.Called.{PlanCalled, PutCalled, split, put_steps, Meets}
-use Rattle.host_replay.specs.Plain.{message_for, PutAt, Filled}
-use Rattle.host_replay.proofs.SplitSteps.{plan_on, PutsTold, plan-anchor, plan-codes, split-puts}
+use Rattle.host_replay.specs.Plain.{put_at, all_put, message_for, tag_for, RightTags}
+use Rattle.host_replay.proofs.SplitSteps.{plan_on, PutTold, PutsTold, plan-depth, plan-codes, split-puts}
 
 -- The message for a node, in the buffer
 
@@ -69,57 +69,70 @@ message-for n L (w ∷ us) rest long u m =
 
 -- What is filled
 
+or_false : (b : Bool) → (b || false) ≡ b
+or_false true = refl
+or_false false = refl
+
+pub or_true : (b : Bool) → (b || true) ≡ true
+or_true true = refl
+or_true false = refl
+
+pub and_false : (b : Bool) → (b && false) ≡ false
+and_false true = refl
+and_false false = refl
+
+or-assoc : (a b c : Bool) → ((a || b) || c) ≡ (a || (b || c))
+or-assoc true b c = refl
+or-assoc false b c = refl
+
+every-same : (f g : ℕ → Bool) (us : List ℕ) → ((u : ℕ) → Memᴰ u us → f u ≡ g u) → every f us ≡ every g us
+unfolding every
+every-same f g [] h = refl
+every-same f g (u ∷ us) h = ap₂ ◌&&◌ (h u (Memᴰ.head refl)) (every-same f g us (λ w m. h w (Memᴰ.tail m)))
+
 module _ (a : Anchor) (i r : ℕ) where
   abbrev n : ℕ
   n = a.depth
 
-  filled-step : (g : Going) → Runs a i r g → (x : PutStep) (u : ℕ) → Memᴰ u (plan_nodes a.depth i)
-      → (filled_at a.depth g.plan u ≡ true) ⊎ (Placed g x × (x.node ≡ u)) → filled_at a.depth (after_put g x).plan u ≡ true
-  filled-step g k x u m h = go (put-move g x) h
+  -- a put fills its node where it answered 0, and no other
+  filled-step : (g : Going) → Runs a i r g → (q : PutCalled) → PutTold g q → (u : ℕ) → Memᴰ u (plan_nodes a.depth i)
+      → filled_at a.depth (after_put g q.step).plan u ≡ (filled_at a.depth g.plan u || (eqb q.step.node u && eqb q.code 0))
+  filled-step g k q t u m = go (put-move g x)
     where
-      go : PutMove g x → (filled_at a.depth g.plan u ≡ true) ⊎ (Placed g x × (x.node ≡ u))
-          → filled_at a.depth (after_put g x).plan u ≡ true
-      go (stood d e) (inl f) = ap (λ (w : Going). filled_at n w.plan u) e ∙ f
-      go (stood d e) (inr c) = absurd (d c.0)
-      go (took o e) c =
-          let w = subst (λ (j : ℕ). Awaited j g.plan x.node) (runs-depth a i r g k)
-          (put_in g.anchor g.plan x.card x.node o).1 in
+      x : PutStep
+      x = q.step
+
+      old : Bool
+      old = filled_at a.depth g.plan u
+
+      go : PutMove g q.step
+          → filled_at a.depth (after_put g q.step).plan u ≡ (filled_at a.depth g.plan u || (eqb q.step.node u && eqb q.code 0))
+      go (stood d e) =
+          ap (λ (w : Going). filled_at n w.plan u) e
+          ∙ sym (ap (λ (b : Bool). old || (eqb x.node u && b)) (ne_eqb q.code 0 (λ z. d (code-whole _ (sym t.coded ∙ z))))
+          ∙ ap (λ (b : Bool). old || b) (and_false (eqb x.node u)) ∙ or_false old)
+      go (took o e) =
+          let zero = t.coded ∙ ap code_of (put-answer g.anchor g.plan x.card x.node x.tag ∙ o) ∙ whole_code in
           let d = runs-depth a i r g k in
-          let q = ap (λ (z : Going). filled_at n z.plan u) e ∙ ap (λ (j : ℕ). filled_at n (fill j g.plan x.node) u) d in
-          q
+          let w = subst (λ (j : ℕ). Awaited j g.plan x.node) d (put_in g.anchor g.plan x.card x.node o).1 in
+          ap (λ (z : Going). filled_at n z.plan u) e ∙ ap (λ (j : ℕ). filled_at n (fill j g.plan x.node) u) d
           ∙ ⊎_elim
-          (λ (s : u ≡ x.node). ap (filled_at n (fill n g.plan x.node)) s ∙ fill-same n g.plan x.node w.unfilled)
+          (λ (s : u ≡ x.node).
+          ap (filled_at n (fill n g.plan x.node)) s ∙ fill-same n g.plan x.node w.unfilled
+          ∙ sym (ap₂ (λ (b c : Bool). old || (b && c)) (eq-eqb x.node u (sym s)) (eq-eqb q.code 0 zero) ∙ or_true old))
           (λ (d : u ≡ x.node → ⊥).
-          ⊎_elim
-          (λ (f : filled_at n g.plan u ≡ true).
-          fill-other n g.plan x.node u w.unfilled w.among
-          (subst (λ (j : ℕ). Memᴰ u (plan_nodes n j)) (sym k.index_is) m) d ∙ f)
-          (λ (s : Placed g x × (x.node ≡ u)). absurd (d (sym s.1))) c)
+          fill-other n g.plan x.node u w.unfilled w.among (subst (λ (j : ℕ). Memᴰ u (plan_nodes n j)) (sym k.index_is) m) d
+          ∙ sym (ap (λ (b : Bool). old || (b && eqb q.code 0)) (ne_eqb x.node u (λ s. d (sym s))) ∙ or_false old))
           (equal_or_not u x.node)
 
-  -- a node at which a put answered 0 is filled in the end
-  filled-all : (qs : List PutCalled) (g : Going) → Runs a i r g → PutsTold g qs → (u : ℕ) → Memᴰ u (plan_nodes a.depth i)
-      → (filled_at a.depth g.plan u ≡ true) ⊎ PutAt u qs → filled_at a.depth (after_all_puts g (put_steps qs)).plan u ≡ true
-  unfolding after_all_puts
-  filled-all [] g k t u m (inl f) = f
-  filled-all [] g k t u m (inr c) = absurd (Memᴰ.not-nil c.among)
-  filled-all (q ∷ qs) g k t u m h =
-      filled-all qs (after_put g q.step) (runs-step a i r g k q.step) t.1 u m (go h)
-    where
-      here : (filled_at a.depth g.plan u ≡ true) ⊎ (Placed g q.step × (q.step.node ≡ u))
-          → filled_at a.depth (after_put g q.step).plan u ≡ true
-      here = filled-step g k q.step u m
-
-      go : (filled_at a.depth g.plan u ≡ true) ⊎ PutAt u (q ∷ qs)
-          → (filled_at a.depth (after_put g q.step).plan u ≡ true) ⊎ PutAt u qs
-      go (inl f) = inl (here (inl f))
-      go (inr c) =
-          ⊎_elim
-          (λ (e : c.put ≡ q).
-          let z = subst (λ (p : PutCalled). p.code ≡ 0) e c.zero in
-          inl (here (inr (code-whole _ (sym t.0.coded ∙ z), subst (λ (p : PutCalled). p.step.node ≡ u) e c.at))))
-          (λ (k : Memᴰ c.put qs). inr (record { put = c.put; among = k; zero = c.zero; at = c.at }))
-          (Memᴰ.cases_cons c.among)
+  filled-end : (qs : List PutCalled) (g : Going) → Runs a i r g → PutsTold g qs → (u : ℕ) → Memᴰ u (plan_nodes a.depth i)
+      → filled_at a.depth (after_all_puts g (put_steps qs)).plan u ≡ (filled_at a.depth g.plan u || put_at u qs)
+  unfolding after_all_puts put_at
+  filled-end [] g k t u m = sym (or_false (filled_at a.depth g.plan u))
+  filled-end (q ∷ qs) g k t u m =
+      filled-end qs (after_put g q.step) (runs-step a i r g k q.step) t.1 u m
+      ∙ ap (λ (b : Bool). b || put_at u qs) (filled-step g k q t.0 u m)
+      ∙ or-assoc (filled_at a.depth g.plan u) (eqb q.step.node u && eqb q.code 0) (put_at u qs)
 
 -- each that answered 0 had the tag M of its node
 puts-right : (F : List ℕ → List ℕ) (ms : List Given) (M : ℕ → List ℕ) → ((m : Given) → Memᴰ m ms → M m.node ≡ F m.message)
@@ -147,7 +160,7 @@ module _ (a : Anchor) (s : List ℕ) (stands : Stands s a) (p : PlanCalled) (qs 
       sym (plan-answer F a p.card p.index p.block p.ranges)
       ∙ code-whole o.call.answer (sym (plan-codes a s stands p qs met).coded ∙ zero)
 
-  ok : Writes a.depth a.root.0 p.card p.index p.block p.ranges
+  ok : Writes a p.card p.index p.block p.ranges
   ok = (accepted F a p.card (write p.index p.block p.ranges) whole).limits-passed
 
   abbrev L : Labels
@@ -156,14 +169,14 @@ module _ (a : Anchor) (s : List ℕ) (stands : Stands s a) (p : PlanCalled) (qs 
   long : (u : ℕ) → Memᴰ u (plan_nodes a.depth p.index) → length (message L u) ≡ size a.depth u + 9
   long u m =
       let n = a.depth in
-      let t = a.root.0 in
+      let t = a.reserved.0 in
       length-message n L
-      (new-sized n t p.index p.block ok.inside (labels n t p.card) ok.long (labels-sized n t p.card ok.sound.full))
-      (ap length (new-root n t p.index p.block ok.inside (labels n t p.card) ok.sound.deep) ∙ length-be 8 (t + n))
+      (new-sized n t p.index p.block ok.inside (labels n a.root.0 p.card) ok.long (labels-sized n a.root.0 p.card ok.sound.full))
+      (ap length (new-root n t p.index p.block ok.inside (labels n a.root.0 p.card) ok.sound.deep) ∙ length-be 8 (t + n))
       u (plan-node n p.index ok.inside u m)
 
-  -- the message for a node in the buffer is the one of the write's labels
-  pub message-is : (u : ℕ) → Memᴰ u (plan_nodes a.depth p.index)
+  -- the message for a node in the buffer is the one of the write's labels, and its tag that one's
+  message-is : (u : ℕ) → Memᴰ u (plan_nodes a.depth p.index)
       → message_for a.depth (plan_nodes a.depth p.index) u p.messages ≡ message (labels_of a p.card p.index p.block) u
   message-is u m =
       let us = plan_nodes a.depth p.index in
@@ -174,22 +187,33 @@ module _ (a : Anchor) (s : List ℕ) (stands : Stands s a) (p : PlanCalled) (qs 
       (messages-are F a p.card p.index p.block p.ranges whole))
       ∙ message-for a.depth L us (drop (length (joined ms)) p.buffer) long u m
 
-  pub filled-completes : Filled a.key a.depth p qs → Completed (cmac_of a.key) (plan_on a p) (put_steps qs)
-  filled-completes f =
-      let n = a.depth in
-      let t = split-puts a s stands p qs met zero in
+  pub tag-is : (u : ℕ) → Memᴰ u (plan_nodes a.depth p.index)
+      → tag_for s p u ≡ cmac_of a.key (message (labels_of a p.card p.index p.block) u)
+  tag-is u m =
+      ap (λ (b : Anchor). cmac_of b.key (message_for b.depth (plan_nodes b.depth p.index) u p.messages)) stands.is
+      ∙ ap F (message-is u m)
+
+  -- the puts fill the plan where each of its nodes has one that answered 0
+  pub fills-is : fills (plan_on a p) (put_steps qs) ≡ all_put s p qs
+  unfolding full
+  fills-is =
       let k = begun-runs F (length-cmac a.key) a p.card p.index p.block p.ranges whole in
-      let end = runs-all a p.index (a.root.0 + n) (put_steps qs) (begun o) k in
-      record {
-        rights = puts-right F o.messages (λ u. F (message_for n (plan_nodes n p.index) u p.messages))
-            (λ m h.
-            let g = given-for F a p.card p.index p.block p.ranges whole m h in
-            ap F (message-is m.node g.for ∙ sym g.is))
-            qs (begun o) t f.rights;
-        fills = ap (λ (b : Anchor). full b.depth (after_all_puts (begun o) (put_steps qs)).plan)
-            (plan-anchor F a p.card p.index p.block p.ranges)
-            ∙ is-full n (after_all_puts (begun o) (put_steps qs)).plan
-            (λ u m.
-            let h = subst (λ (j : ℕ). Memᴰ u (plan_nodes n j)) end.index_is m in
-            filled-all a p.index (a.root.0 + n) qs (begun o) k t u h (inr (f.fills u h)));
-      }
+      let e = after_all_puts (begun o) (put_steps qs) in
+      ap (λ (n : ℕ). full n e.plan) (plan-depth F a p.card p.index p.block p.ranges)
+      ∙ ap (λ (i : ℕ). every (filled_at a.depth e.plan) (plan_nodes a.depth i))
+      (runs-all (raise a) p.index (a.reserved.0 + a.depth) (put_steps qs) (begun o) k).index_is
+      ∙ every-same (filled_at a.depth e.plan) (λ u. put_at u qs) (plan_nodes a.depth p.index)
+      (λ u m.
+      filled-end (raise a) p.index (a.reserved.0 + a.depth) qs (begun o) k (split-puts a s stands p qs met zero) u m
+      ∙ ap (λ (b : Bool). b || put_at u qs)
+      (none_filled a.depth o.plan (ap (λ (q : Planned). q.plan.filled) (planned-done F a p.card p.index p.block p.ranges whole)) u))
+      ∙ ap (λ (b : Anchor). every (λ u. put_at u qs) (plan_nodes b.depth p.index)) (sym stands.is)
+
+  -- and had the right tags in the list where they had them
+  pub rights-so : RightTags s p qs → EachPut (PutRight (cmac_of a.key) (plan_on a p).messages) (begun (plan_on a p)) (put_steps qs)
+  rights-so h =
+      puts-right F o.messages (tag_for s p)
+      (λ m k.
+      let g = given-for F a p.card p.index p.block p.ranges whole m k in
+      tag-is m.node g.for ∙ ap F (sym g.is))
+      qs (begun o) (split-puts a s stands p qs met zero) h

@@ -1,9 +1,11 @@
 pub mod OfCode
 pub mod SplitSteps
 pub mod Filling
+pub mod Attempts
 pub mod InTurn
 pub mod Runs
 pub mod Theorem
 pub mod ByAnswers
+pub mod NonceLaws
 pub mod PlainLaws
 pub mod GoesOn

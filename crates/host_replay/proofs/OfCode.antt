@@ -18,8 +18,11 @@ use Rattle.pat.proofs.pat_check.Reads as check-code
 use Rattle.pat.proofs.pat_wipe.Reads as wipe-code
 use Rattle.pat.proofs.pat_plan.Reads as plan-code
 use Rattle.pat.proofs.pat_put_tag.Reads as put-code
+use Rattle.pat.proofs.pat_write_journalled.Reads as attempt-code
 use Rattle.pat.specs.contracts.pat_write_in_place as in_place
-use Rattle.host_replay.specs.Called.{bytes, struct, call, PlanMeets, PutsMeet, Meets, Formatted}
+use Rattle.replay.specs.Run.{Fate}
+use Rattle.host_bytes.specs.Host.{anchor_bytes}
+use Rattle.host_replay.specs.Called.{bytes, struct, call, PlanMeets, PutsMeet, AttemptMeets, Meets, Formatted}
 
 pub format-ran : (κs : _) (x : _) (r : _) (e : _) → format-code.Learnt κs x r e
     → Formatted x.0.now x.1.0.now r e.0.now e.1.0.now
@@ -56,6 +59,7 @@ pub plan-ran : (κs : _) (x : _) (r : _) (e : _) → plan-code.Learnt κs x r e
       room = x.1.1.1.1.1.0.now;
       buffer = x.1.1.1.1.1.1.0.now;
       code = r;
+      anchor = e.0.now;
       left = e.1.0.now;
       lent = e.1.1.1.1.0.now;
       plan = e.1.1.1.1.1.0.now;
@@ -73,6 +77,25 @@ pub put-ran : (κs : _) (x : _) (r : _) (e : _) → put-code.Learnt κs x r e �
       card = e.1.1.0.now;
     } ∷ [])
 put-ran κs x r e learnt long = (long, learnt, tt)
+
+-- with a buffer of the right length for the raised anchor, however far it came
+pub attempt-ran : (κs : _) (x : _) (r : _) (e : _) → attempt-code.Learnt κs x r e → length x.1.0.now ≡ anchor_bytes → (fate : Fate)
+    → AttemptMeets x.0.now (record {
+      card = x.1.1.0.now;
+      index = x.1.1.1.0;
+      block = x.1.1.1.1.0.now;
+      ranges = x.1.1.1.1.1.0.now;
+      room = x.1.0.now;
+      journal = x.1.1.1.1.1.1.0.now;
+      code = r;
+      anchor = e.0.now;
+      raised = e.1.0.now;
+      left = e.1.1.0.now;
+      lent = e.1.1.1.1.1.0.now;
+      filled = e.1.1.1.1.1.1.0.now;
+      fate = fate;
+    })
+attempt-ran κs x r e learnt long fate = record { raised-room = long; says = learnt }
 
 -- The write in place has the anchor as a struct: here is its `ensures`, as the check reads it.
 module _ {M : Type 1} {𝓤 : Ura M} (𝓛 : Logic 𝓤) (mem : Memory → SProp 𝓤) (run : Routine → Fun 𝓤) where

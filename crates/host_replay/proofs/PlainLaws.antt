@@ -1,38 +1,37 @@
 -- Demand 3 of the functions for C in their own terms.
 use mathlib.Core.Path.{◌≡◌, refl, sym, ap, ap₂, subst, ◌∙◌}
-use mathlib.Core.Bool.{Bool, cond, ◌&&◌}
+use mathlib.Core.Bool.{Bool, true}
 use mathlib.Core.List.{List, [], ◌∷◌, ◌++◌, map, map-append}
 use mathlib.Core.Logic.{inl, inr, ⊎_elim}
 use Prim.Native.Nat.{ℕ, ◌+◌, ◌*◌, ◌^◌}
-use native.Mathlib.Nat.{add-mul}
-use native.Mathlib.Omega.{arith}
 use borrow.Author.Tests.{eq-eqb}
 use lib.ListN.{length, replicate, length-replicate}
 use Rattle.std.proofs.Math.Option.{none}
 use Rattle.cmac.specs.Cmac.{cmac_of}
 use Rattle.cmac.proofs.Laws.{length-cmac}
 use Rattle.tree.specs.Limits.{first_failing}
-use Rattle.tree.specs.Calls.{Call, wipe, limits, is_write, renews, format}
+use Rattle.tree.specs.Calls.{Call, write, wipe, is_write, format}
 use Rattle.tree.specs.declared.Anchor.{Anchor}
 use Rattle.replay.specs.Array
 use Rattle.replay.specs.Array.{Told, Array, zeroed, moved}
 use Rattle.replay.specs.Places.{Place}
 use Rattle.replay.specs.Run
-use Rattle.replay.specs.Run.{Step, call_of, Store, State, start, result, next, after, renewals}
+use Rattle.replay.specs.Run.{Step, call_of, limits_of, Store, State, start, result, after}
 use Rattle.replay.specs.Claim
 use Rattle.replay.specs.Claim.{Agrees, Accepted, AcceptedWipe, known, AllComplete, Agreement, Forgery, Faithful}
 use Rattle.replay.proofs.PlaceLaws.{earlier, mapped, Image, image}
 use Rattle.replay.proofs.Moves.{moved_length}
-use Rattle.replay.proofs.Anchors.{after-key, next-root, after-root}
+use Rattle.replay.proofs.Anchors.{after-key}
+use Rattle.replay.proofs.Unforged.{write-not-wipe}
 use Rattle.host_bytes.specs.Host.{anchor_of, code_of}
 use Rattle.host_bytes.proofs.AnchorLaws.{code-whole, whole_code}
-use Rattle.host_replay.specs.Called.{Held, bytes, anchor_in, Called, given_to, step_of, steps, back_of, History, Formatted}
+use Rattle.host_replay.specs.Called.{bytes, anchor_in, Called, call, split, attempt, given_to, step_of, steps, back_of, History, Formatted}
 use Rattle.host_replay.specs.Called.{begin, Demand3Of}
-use Rattle.host_replay.specs.Plain.{whole, called, shown, left_by, array_by, counted, renewals_by, Shows, Each, Agreed, Untouched}
+use Rattle.host_replay.specs.Plain.{called, shown, stands, left_by, array_by, Shows, Each, Agreed, Untouched}
 use Rattle.host_replay.specs.Plain.{AllUntouched, Unwiped, WritesUntouched, AllFilled, PlainDemand}
-use Rattle.host_replay.proofs.Theorem.{Tells, given_is, filled-complete, followed, demand3-of-calls}
-use Rattle.host_replay.proofs.SplitSteps.{code_is}
-use Rattle.host_replay.proofs.ByAnswers.{not-wrong, left_by_lem, array-by, renewals-by, untouched-here}
+use Rattle.host_replay.proofs.Theorem.{given_is, filled-complete, followed, complete-before, demand3-of-calls}
+use Rattle.host_replay.proofs.ByAnswers.{not-wrong, Ran, stands-so, left_by_lem, array-by, untouched-here}
+use Rattle.host_replay.proofs.NonceLaws.{front-ran, nonces-at, kept-at}
 
 -- two definitions of one meaning
 agrees-shows : (n : ℕ) (array : Array) (card given : List ℕ) (c : Told) → Agrees n array card given c → Shows n array card given c
@@ -60,25 +59,24 @@ module _ (anchor card made left : List ℕ) (formatted : Formatted anchor card 0
   demand : Demand3Of anchor card made left rs
   demand = demand3-of-calls anchor card made left formatted rs ran complete
 
-  tells : (p : Place rs) → Each p.before (Tells (anchor_of anchor).key (begin anchor card))
-  tells p q = demand.told (earlier p q)
+  ran-before : (p : Place rs) → Each p.before (Ran (anchor_of anchor).key (begin anchor card))
+  ran-before p q = followed anchor card made left formatted rs ran complete (earlier p q)
 
   left_is : (p : Place rs) → (store p).left ≡ left_by left p.before
-  left_is p = left_by_lem k p.before s₀ (tells p) ∙ ap (λ (l : List ℕ). left_by l p.before) (sym demand.formatted)
+  left_is p = left_by_lem k p.before s₀ (ran-before p) ∙ ap (λ (l : List ℕ). left_by l p.before) (sym demand.formatted)
 
   zeroed-is : (begin anchor card).store.array ≡ zeroed (2 ^ (anchor_of anchor).depth)
   unfolding start
   zeroed-is = refl
 
   array-is : (p : Place rs) → (store p).array ≡ array_by (zeroed (2 ^ (anchor_of anchor).depth)) p.before
-  array-is p = array-by k p.before s₀ (tells p) ∙ ap (λ (a : Array). array_by a p.before) zeroed-is
-
-  complete-before : (p : Place rs) → AllComplete (cmac_of (anchor_of anchor).key) (begin anchor card) (steps p.before)
-  complete-before p q = complete (earlier (mapped step_of p) q)
+  array-is p = array-by k p.before s₀ (ran-before p) ∙ ap (λ (a : Array). array_by a p.before) zeroed-is
 
   depth_is : (p : Place rs) → (store p).anchor.depth ≡ (anchor_of anchor).depth
   unfolding start format
-  depth_is p = (after-key (cmac_of k) (length-cmac k) (steps p.before) s₀ (complete-before p)).1
+  depth_is p =
+      (after-key (cmac_of k) (length-cmac k) (steps p.before) s₀
+      (complete-before anchor card made left formatted rs ran complete p)).1
 
   agreed : Agreement (cmac_of (anchor_of anchor).key) (begin anchor card) (steps rs) → Agreed (anchor_of anchor).depth rs
   agreed a p zero =
@@ -93,58 +91,29 @@ module _ (anchor card made left : List ℕ) (formatted : Formatted anchor card 0
       (subst (λ (b : Array). Shows n b (shown r) o.lent (Run.told (called r))) (array-is p)
       (subst (λ (m : ℕ). Shows m z.array (shown r) o.lent (Run.told (called r))) (depth_is p) shows))
 
-  start-root : (begin anchor card).store.anchor.root.0 ≡ 0
-  unfolding start format
-  start-root = refl
-
-  start-depth : (begin anchor card).store.anchor.depth ≡ (anchor_of anchor).depth
-  unfolding start format
-  start-depth = refl
-
-  root : (p : Place rs)
-      → (anchor_in (back_of p.item).anchor).root.0 ≡ (renewals_by p.before + counted p.item) * (anchor_of anchor).depth
-  unfolding next
-  root p =
-      let r = p.item in
-      let z = after (cmac_of k) s₀ (steps p.before) in
-      let t = demand.told p in
-      let w = after-root (cmac_of k) (length-cmac k) (steps p.before) s₀ (complete-before p) in
-      let c = code_is (result (cmac_of k) z.store (step_of r)).answer (back_of r).code t.coded in
-      ap (λ (a : Anchor). a.root.0) t.anchored
-      ∙ next-root (cmac_of k) (length-cmac k) z (step_of r) (complete (mapped step_of p))
-      ∙ sum z.store.anchor.root.0 _ (counted r) (renewals_by p.before) z.store.anchor.depth
-      (w ∙ ap₂ (λ (m d : ℕ). m + renewals (cmac_of k) s₀ (steps p.before) * d) start-root start-depth
-      ∙ ap (λ (m : ℕ). 0 + m * n) (renewals-by k p.before s₀ (tells p)) ∙ from_zero (renewals_by p.before * n))
-      (ap (λ (b : Bool). cond (b && renews (called r)) 1 0) (sym c))
-      (depth_is p)
-    where
-      from_zero : (m : ℕ) → 0 + m ≡ m
-      from_zero m = omega arith
-
-      sum : (t m c w d : ℕ) → t ≡ w * (anchor_of anchor).depth → m ≡ c → d ≡ (anchor_of anchor).depth
-          → t + m * d ≡ (w + c) * (anchor_of anchor).depth
-      sum t m c w d p q e = rw (p, q, e) (sym (add-mul w c (anchor_of anchor).depth))
+  stands_is : (p : Place rs) → Run.stands (cmac_of (anchor_of anchor).key) (store p) (step_of p.item) ≡ stands p.item
+  stands_is p =
+      (stands-so k p.item (after (cmac_of k) s₀ (steps p.before)) (followed anchor card made left formatted rs ran complete p)).0
 
   -- what is untouched is so in the list
-  untouched-at : (p : Place rs) → (back_of p.item).code ≡ 0 → Untouched (left_by left p.before) p.item
+  untouched-at : (p : Place rs) → stands p.item ≡ true → Untouched (left_by left p.before) p.item
       → Claim.Untouched (cmac_of (anchor_of anchor).key) (store p) (step_of p.item)
-  untouched-at p zero u =
-      untouched-here k p.item (after (cmac_of k) s₀ (steps p.before)) (followed anchor card made left formatted rs ran complete p) zero
+  untouched-at p w u =
+      untouched-here k p.item (after (cmac_of k) s₀ (steps p.before)) (followed anchor card made left formatted rs ran complete p) w
       (subst (λ (l : List ℕ). Untouched l p.item) (sym (left_is p)) u)
 
-  -- an accepted place of the list is a call that answered 0
+  -- a place of the list that stands is a call that does
   untouched : (q : Place (steps rs))
-      → Accepted (cmac_of (anchor_of anchor).key) (known (cmac_of (anchor_of anchor).key) (begin anchor card) q).store q.item
-      → ((i : Image step_of rs q) → (back_of i.place.item).code ≡ 0 → Untouched (left_by left i.place.before) i.place.item)
+      → Claim.Stands (cmac_of (anchor_of anchor).key) (known (cmac_of (anchor_of anchor).key) (begin anchor card) q).store q.item
+      → ((i : Image step_of rs q) → stands i.place.item ≡ true → Untouched (left_by left i.place.before) i.place.item)
       → Claim.Untouched (cmac_of (anchor_of anchor).key) (known (cmac_of (anchor_of anchor).key) (begin anchor card) q).store q.item
   untouched q w f =
       let i = image step_of rs q in
       let p = i.place in
-      let same = ap₂ (λ (l : List Step) (y : Step). (result (cmac_of k) (after (cmac_of k) s₀ l).store y).answer) i.before-is
-      i.item-is in
-      let zero = (demand.told p).coded ∙ ap code_of (same ∙ w) ∙ whole_code in
+      let same = ap₂ (λ (l : List Step) (y : Step). Run.stands (cmac_of k) (after (cmac_of k) s₀ l).store y) i.before-is i.item-is in
+      let stood = sym (stands_is p) ∙ same ∙ w in
       subst (λ (l : List Step). Claim.Untouched (cmac_of k) (after (cmac_of k) s₀ l).store q.item) i.before-is
-      (subst (λ (y : Step). Claim.Untouched (cmac_of k) (store p) y) i.item-is (untouched-at p zero (f i zero)))
+      (subst (λ (y : Step). Claim.Untouched (cmac_of k) (store p) y) i.item-is (untouched-at p stood (f i stood)))
 
   -- and a wipe that answered 0 is an accepted one
   wipes : (p : Place rs) → (back_of p.item).code ≡ 0 → called p.item ≡ wipe
@@ -167,7 +136,7 @@ module _ (anchor card made left : List ℕ) (formatted : Formatted anchor card 0
   honest : AllUntouched left rs → Agreed (anchor_of anchor).depth rs
   honest f =
       agreed (demand.unforged.agreed (λ q w d.
-      untouched q w (λ i zero. f i.place zero (λ e. d (sym (ap call_of i.item-is) ∙ e)))))
+      untouched q w (λ i stood. f i.place stood (λ e. d (sym (ap call_of i.item-is) ∙ e)))))
 
 -- The array has its length always, and is empty after a wipe that answered 0.
 
@@ -175,29 +144,30 @@ array-length : (rs : List Called) (a : Array) → length (array_by a rs) ≡ len
 array-length [] a = refl
 array-length (r ∷ rs) a =
     let c = Run.told (called r) in
-    array-length rs (moved a c (whole r)) ∙ moved_length a c (whole r)
+    array-length rs (moved a c (stands r)) ∙ moved_length a c (stands r)
 
-array-more : (rs : List Called) (r : Called) (a : Array)
-    → array_by a (rs ++ (r ∷ [])) ≡ moved (array_by a rs) (Run.told (called r)) (whole r)
+pub array-more : (rs : List Called) (r : Called) (a : Array)
+    → array_by a (rs ++ (r ∷ [])) ≡ moved (array_by a rs) (Run.told (called r)) (stands r)
 array-more [] r a = refl
-array-more (q ∷ rs) r a = array-more rs r (moved a (Run.told (called q)) (whole q))
+array-more (q ∷ rs) r a = array-more rs r (moved a (Run.told (called q)) (stands q))
+
+-- no other step is a wipe
+wipe-stands : (r : Called) → (back_of r).code ≡ 0 → called r ≡ wipe → stands r ≡ true
+wipe-stands (call given card c back) zero w = eq-eqb back.code 0 zero
+wipe-stands (split given p qs) zero w = absurd (write-not-wipe (write p.index p.block p.ranges) refl w)
+wipe-stands (attempt given t) zero w = absurd (write-not-wipe (write t.index t.block t.ranges) refl w)
 
 emptied : (count : ℕ) (rs : List Called) (r : Called) → (back_of r).code ≡ 0 → called r ≡ wipe
     → array_by (zeroed count) (rs ++ (r ∷ [])) ≡ zeroed count
 unfolding zeroed moved
 emptied count rs r zero w =
     array-more rs r (zeroed count)
-    ∙ ap₂ (λ (c : Call) (b : Bool). moved (array_by (zeroed count) rs) (Run.told c) b) w (eq-eqb (back_of r).code 0 zero)
+    ∙ ap₂ (λ (c : Call) (b : Bool). moved (array_by (zeroed count) rs) (Run.told c) b) w (wipe-stands r zero w)
     ∙ ap zeroed (array-length rs (zeroed count) ∙ length-replicate count (replicate 64 0))
-
--- the calls before one are a history
-front-ran : (h : Held) (before behind : List Called) → History h (before ++ behind) → History h before
-front-ran h [] behind k = tt
-front-ran h (r ∷ before) behind k = (k.0, k.1, front-ran (back_of r).anchor before behind k.2)
 
 module _ (anchor card made left : List ℕ) (formatted : Formatted anchor card 0 made left) (rs : List Called)
     (ran : History (bytes made) rs)
-    (filled : AllFilled anchor rs) where
+    (filled : AllFilled rs) where
   complete : AllComplete (cmac_of (anchor_of anchor).key) (begin anchor card) (steps rs)
   complete = filled-complete anchor card made left formatted rs ran filled
 
@@ -210,8 +180,8 @@ module _ (anchor card made left : List ℕ) (formatted : Formatted anchor card 0
       let early = front-ran (bytes made) p.before (p.item ∷ p.behind) (subst (History (bytes made)) p.is ran) in
       let before = complete-before anchor card made left formatted rs ran complete p in
       untouched anchor card made left formatted p.before early before q a
-      (λ i zero.
-      f i.place (unwiped anchor card made left formatted p.before early before q i free) zero
+      (λ i stood.
+      f i.place (unwiped anchor card made left formatted p.before early before q i free) stood
       (ap (λ (y : Step). is_write (call_of y)) i.item-is ∙ w))
 
   as_left : (p : Place rs) → shown p.item ≡ left_by left p.before
@@ -223,7 +193,7 @@ module _ (anchor card made left : List ℕ) (formatted : Formatted anchor card 0
 
   accepted : Each rs (λ before r.
       WritesUntouched left before → shown r ≡ left_by left before
-      → first_failing (limits (anchor_in (given_to r)) (shown r) (called r)) ≡ none → (back_of r).code ≡ 0)
+      → first_failing (limits_of (anchor_in (given_to r)) (step_of r)) ≡ none → (back_of r).code ≡ 0)
   accepted p f same passed =
       let k = (anchor_of anchor).key in
       let z = after (cmac_of k) (begin anchor card) (steps p.before) in
@@ -231,7 +201,7 @@ module _ (anchor card made left : List ℕ) (formatted : Formatted anchor card 0
       (d.told p).coded
       ∙ ap code_of
       (d.unforged.accepts (mapped step_of p) (faithful p f) (as_left p same)
-      (subst (λ (a : Anchor). first_failing (limits a (shown p.item) (called p.item)) ≡ none)
+      (subst (λ (a : Anchor). first_failing (limits_of a (step_of p.item)) ≡ none)
       (given_is k p.item z g.held g.knows g.handed g.met) passed))
       ∙ whole_code
 
@@ -246,6 +216,7 @@ module _ (anchor card made left : List ℕ) (formatted : Formatted anchor card 0
         honest = honest anchor card made left formatted rs ran complete;
         quiet = quiet;
         accepted = accepted;
-        root = root anchor card made left formatted rs ran complete;
+        nonces = nonces-at anchor card made left formatted rs ran complete;
+        root-kept = kept-at anchor card made left formatted rs ran complete;
         emptied = λ p zero w. emptied (2 ^ (anchor_of anchor).depth) p.before p.item zero w;
       }

@@ -1,4 +1,4 @@
--- Every list of calls and split writes, with the anchor in whatever form, runs from the bytes of any anchor.
+-- Every list of calls, split writes and attempts, with the anchor in whatever form, runs from the bytes of any anchor.
 use mathlib.Core.Path.{◌≡◌, refl, sym, ap, ap₂, subst, ◌∙◌}
 use mathlib.Core.List.{List, [], ◌∷◌}
 use Prim.Native.Nat.{ℕ}
@@ -7,7 +7,6 @@ use lib.ListN.{length, replicate, length-replicate}
 use Rattle.cmac.specs.Cmac.{cmac_of}
 use Rattle.cmac.proofs.Laws.{length-cmac}
 use Rattle.tree.specs.Calls.{Call, Outcome, outcome}
-use Rattle.plan.specs.Places.{plan_nodes}
 use Rattle.plan.specs.Split.{no_plan, message_room}
 use Rattle.plan.specs.Puts.{PutStep}
 use Rattle.plan.proofs.PutLaws.{put-answer, no-plan-takes}
@@ -17,12 +16,15 @@ use Rattle.host_bytes.specs.RoundTrip.{Stands, StandsPlan}
 use Rattle.host_bytes.proofs.AnchorLaws.{code-whole, call-stands}
 use Rattle.host_bytes.proofs.PlanBytesLaws.{bytes-stand}
 use Rattle.host_bytes.proofs.SplitTripLaws.{plan-refused, put-told, put_refused}
-use Rattle.host_replay.specs.Called.{Held, bytes, struct, PlanCalled, PutCalled, Called, call, split, put_steps, last_anchor, last_card}
-use Rattle.host_replay.specs.Called.{back_of}
+use Rattle.host_bytes.specs.Journal.{host_journalled}
+use Rattle.replay.specs.Run.{Fate}
+use Rattle.host_replay.specs.Called.{Held, bytes, struct, PlanCalled, PutCalled, AttemptCalled, Called, call, split, attempt, put_steps}
+use Rattle.host_replay.specs.Called.{last_anchor, last_card, chip_anchor, back_of}
 use Rattle.host_replay.specs.Called.{PutsMeet, NonePut, Meets, Handed}
 use Rattle.host_replay.specs.Called.{by_bytes, in_place, Turn, turn_of, TagsFit, Fits, AllFit, Runs}
-use Rattle.host_replay.specs.Plain.{message_for, InTurn, RunsInTurn}
+use Rattle.host_replay.specs.Plain.{tag_for, InTurn, RunsInTurn}
 use Rattle.host_replay.proofs.SplitSteps.{split-stands}
+use Rattle.host_replay.proofs.Attempts.{attempt-stands}
 
 -- s are the bytes of the anchor h, or would be
 abbrev Carries : List ℕ → Held → Type 0
@@ -82,35 +84,37 @@ puts-run (x ∷ xs) fit s b =
     }
 
 -- in turn
-module _ (key : List ℕ) (n : ℕ) (p : PlanCalled) where
-  record TurnsRun (s b left us : List ℕ) : Type 0 where
+module _ (s : List ℕ) (p : PlanCalled) where
+  record TurnsRun (e b left us : List ℕ) : Type 0 where
     puts : List PutCalled
-    ran : PutsMeet s b puts
-    turn : InTurn key n p left us puts
+    ran : PutsMeet e b puts
+    turn : InTurn s p left us puts
 
-  turns-from : (us s b left : List ℕ) → TurnsRun s b left us
-  turns-from [] s b left = record { puts = []; ran = tt; turn = tt }
-  turns-from (u ∷ us) s b left =
-      let m = message_for n (plan_nodes n p.index) u p.messages in
-      let h = host_put s b left u (cmac_of key m) in
+  turns-from : (us e b k : List ℕ) → TurnsRun e b k us
+  turns-from [] e b k = record { puts = []; ran = tt; turn = tt }
+  turns-from (u ∷ us) e b k =
+      let h = host_put e b k u (tag_for s p u) in
       let q : PutCalled = record {
-        step = record { card = left; node = u; tag = cmac_of key m };
+        step = record { card = k; node = u; tag = tag_for s p u };
         code = h.code;
         anchor = h.anchor;
         plan = h.plan;
         card = h.card;
       } in
-      let rest = turns-from us h.anchor h.plan (last_card left (q ∷ [])) in
+      let rest = turns-from us h.anchor h.plan (last_card k (q ∷ [])) in
       record {
         puts = q ∷ rest.puts;
-        ran = (length-cmac key m, record { coded = refl; anchored = refl; planned = refl; left = refl }, rest.ran);
+        ran = (
+          length-cmac (anchor_of s).key _,
+          record { coded = refl; anchored = refl; planned = refl; left = refl },
+          rest.ran,
+        );
         turn = (refl, refl, refl, rest.turn);
       }
 
 pub turns-run : (s : List ℕ) (p : PlanCalled) (us : List ℕ) → RunsInTurn s p us
 turns-run s p us =
-    let r = turns-from (anchor_of s).key (anchor_of s).depth p us s p.plan p.left in
-    record { puts = r.puts; ran = r.ran; turn = r.turn }
+    let r = turns-from s p us p.anchor p.plan p.left in record { puts = r.puts; ran = r.ran; turn = r.turn }
 
 -- with the bytes of no plan each is refused
 none-put : (qs : List PutCalled) (s b : List ℕ) → length s ≡ anchor_bytes → StandsPlan b no_plan → PutsMeet s b qs → NonePut qs
@@ -144,30 +148,62 @@ module _ (s : List ℕ) (long : length s ≡ anchor_bytes) (card : List ℕ) (i 
         room = bytes_of no_plan;
         buffer = replicate message_room 0;
         code = h.code;
+        anchor = h.anchor;
         left = h.card;
         lent = h.ranges;
         plan = h.plan;
         messages = h.messages;
       }
 
-  abbrev put-calls : PutsRun s plan-called.plan puts
-  put-calls = puts-run puts fit s plan-called.plan
+  abbrev put-calls : PutsRun plan-called.anchor plan-called.plan puts
+  put-calls = puts-run puts fit plan-called.anchor plan-called.plan
 
   split-meets : Meets (split s plan-called put-calls.puts)
   split-meets =
       let p = plan-called in
-      let says : HostsPlan (host_plan s card i block ranges p.room p.buffer) p.code p.plan p.left p.lent p.messages =
-      record { coded = refl; planned = refl; left = refl; filled = refl; gave = refl } in (
+      let says : HostsPlan (host_plan s card i block ranges p.room p.buffer) p.code p.anchor p.plan p.left p.lent p.messages =
+      record { coded = refl; anchored = refl; planned = refl; left = refl; filled = refl; gave = refl } in (
         record { plan-room = room-stands.long; message-room = length-replicate {A = ℕ} message_room 0; says = says },
         put-calls.ran,
         λ d.
-            let k = plan-refused s card p.room i block ranges p.buffer p.code p.plan p.left p.lent p.messages says d in
-            none-put put-calls.puts s p.plan long (subst (λ (l : List ℕ). StandsPlan l no_plan) (sym k.0) room-stands)
-            put-calls.ran,
+            let k = plan-refused s card p.room i block ranges p.buffer p.code p.anchor p.plan p.left p.lent p.messages says d in
+            none-put put-calls.puts p.anchor p.plan (ap length k.0 ∙ long)
+            (subst (λ (l : List ℕ). StandsPlan l no_plan) (sym k.1) room-stands) put-calls.ran,
       )
 
-  split-long : length (last_anchor s put-calls.puts) ≡ anchor_bytes
+  split-long : length (last_anchor plan-called.anchor put-calls.puts) ≡ anchor_bytes
   split-long = (split-stands (anchor_of s) s (record { long = long; is = refl }) plan-called put-calls.puts split-meets).long
+
+-- What an attempt does, whose buffer for the raised anchor has zeros
+module _ (s : List ℕ) (long : length s ≡ anchor_bytes) (card : List ℕ) (i : ℕ) (block ranges journal : List ℕ) (fate : Fate) where
+  abbrev attempt-called : AttemptCalled
+  attempt-called =
+      let h = host_journalled s (replicate anchor_bytes 0) card i block ranges journal in
+      record {
+        card = card;
+        index = i;
+        block = block;
+        ranges = ranges;
+        room = replicate anchor_bytes 0;
+        journal = journal;
+        code = h.code;
+        anchor = h.anchor;
+        raised = h.raised;
+        left = h.card;
+        lent = h.ranges;
+        filled = h.journal;
+        fate = fate;
+      }
+
+  attempt-meets : Meets (attempt s attempt-called)
+  attempt-meets =
+      record {
+        raised-room = length-replicate {A = ℕ} anchor_bytes 0;
+        says = record { coded = refl; anchored = refl; raises = refl; left = refl; filled = refl; journals = refl };
+      }
+
+  attempt-long : length (chip_anchor s attempt-called) ≡ anchor_bytes
+  attempt-long = (attempt-stands (anchor_of s) s (record { long = long; is = refl }) attempt-called attempt-meets).long
 
 runs-from : (ts : List Turn) → AllFit ts → (s : List ℕ) (h : Held) → Carries s h → Runs h ts
 runs-from [] fit s h k = record { calls = []; ran = tt; are = refl }
@@ -196,11 +232,21 @@ runs-from (t ∷ ts) fit s h k = go t fit.0 (runs-from ts fit.1)
     go (Turn.split card i block ranges puts) f rest =
         let qs = put-calls s long card i block ranges puts f in
         let r : Called = split s (plan-called s long card i block ranges puts f) qs.puts in
-        let q = rest (last_anchor s qs.puts) (back_of r).anchor (refl, split-long s long card i block ranges puts f) in
+        let q = rest (last_anchor (plan-called s long card i block ranges puts f).anchor qs.puts) (back_of r).anchor
+        (refl, split-long s long card i block ranges puts f) in
         record {
           calls = r ∷ q.calls;
           ran = (to-bytes s h k, split-meets s long card i block ranges puts f, q.ran);
           are = ap₂ (λ (xs : List PutStep) (l : List Turn). Turn.split card i block ranges xs ∷ l) qs.are q.are;
+        }
+    go (Turn.attempt card i block ranges journal fate) f rest =
+        let r : Called = attempt s (attempt-called s long card i block ranges journal fate) in
+        let q = rest (chip_anchor s (attempt-called s long card i block ranges journal fate)) (back_of r).anchor
+        (refl, attempt-long s long card i block ranges journal fate) in
+        record {
+          calls = r ∷ q.calls;
+          ran = (to-bytes s h k, attempt-meets s long card i block ranges journal fate, q.ran);
+          are = ap (λ (l : List Turn). Turn.attempt card i block ranges journal fate ∷ l) q.are;
         }
 
 pub runs : (anchor : List ℕ) → length anchor ≡ anchor_bytes → (ts : List Turn) → AllFit ts → Runs (bytes anchor) ts

@@ -1,14 +1,12 @@
 -- A plan and its puts for C are a split write of the list.
 use mathlib.Core.Path.{◌≡◌, refl, sym, ap, ap₂, subst, ◌∙◌}
 use mathlib.Core.Bool.{Bool, true, false, cond}
-use mathlib.Core.List.{List, [], ◌∷◌, ◌++◌}
+use mathlib.Core.List.{List, [], ◌∷◌}
 use mathlib.Core.Logic.{◌⊎◌, inl, inr}
 use Prim.Native.Nat.{ℕ}
 use native.Mathlib.Omega.{arith}
 use borrow.Author.Tests.{eq-eqb, ne_eqb, eqb-true, eqb-false}
 use lib.Dec.{eqb}
-use lib.ListN.{length, take}
-use lib.Seq.{take-append-le, take_all, length-take-le}
 use Rattle.cmac.specs.Cmac.{cmac_of}
 use Rattle.tree.specs.Numbers.{be8}
 use Rattle.tree.specs.Answer.{is_whole}
@@ -19,11 +17,14 @@ use Rattle.tree.specs.Answer.{Whole, Wrong, Refused}
 use Rattle.plan.specs.Split.{Planned, plan_settled, planned, put}
 use Rattle.plan.specs.Puts.{PutStep, Going, begun, after_put, after_all_puts, EachPut, PutUntouched}
 use Rattle.replay.specs.Run.{finished, split_outcome}
-use Rattle.host_bytes.specs.Host.{anchor_bytes, anchor_of, code_of, Codes}
+use Rattle.plan.proofs.ListLaws.{contrary}
+use Rattle.plan.proofs.StoreLaws.{sets-again}
+use Rattle.host_bytes.specs.Host.{anchor_of, with_root, code_of, Codes}
 use Rattle.host_bytes.specs.Split.{hosted_plan, HostsPlan}
 use Rattle.host_bytes.specs.RoundTrip.{Stands, StandsPlan}
 use Rattle.host_bytes.proofs.AnchorLaws.{code-whole, whole_code}
-use Rattle.host_bytes.proofs.SplitTripLaws.{plan-told, plan-stored, put-told, put-stored, put-bytes, put-keeps-root, put_refused}
+use Rattle.host_bytes.proofs.SplitTripLaws.{plan-told, plan-stored, plan-refused, put-told, put-stored, put-bytes, put-keeps-root}
+use Rattle.host_bytes.proofs.SplitTripLaws.{put_refused}
 use Rattle.host_replay.specs.Called.{PlanCalled, PutCalled, split, put_steps, last_anchor, last_card, PutsMeet}
 use Rattle.host_replay.specs.Called.{NonePut, Meets}
 use Rattle.host_replay.specs.Plain.{PutsUntouched}
@@ -77,7 +78,7 @@ module _ (g : Going) (q : PutCalled) (s b : List ℕ) (a : Stands s g.anchor) (p
       (put-stored s x.card b a.long g.plan p x.node x.tag m.0 q.code q.anchor q.plan q.card m.1).1
 
   -- the anchor's bytes are as they were, or have the plan's root nonce
-  bytes-here : (q.anchor ≡ s) ⊎ (q.anchor ≡ take 24 s ++ be8 g.plan.root.0)
+  bytes-here : (q.anchor ≡ s) ⊎ (q.anchor ≡ with_root s g.plan.root.0)
   bytes-here = put-bytes s x.card b a.long g.plan p x.node x.tag m.0 q.code q.anchor q.plan q.card m.1
 
   root-here : (after_put g q.step).plan.root.0 ≡ g.plan.root.0
@@ -94,25 +95,23 @@ puts-told (q ∷ qs) g s b a p m = (
 
 -- The anchor's bytes in the end are those of before, or have the plan's root nonce.
 
--- from the bytes s on, of which the first 24 stay
+-- from the bytes s on
 abbrev Kept : List ℕ → ℕ → List ℕ → Type 0
-Kept s r e = (take 24 e ≡ take 24 s) × ((e ≡ s) ⊎ (e ≡ take 24 s ++ be8 r))
+Kept s r e = (e ≡ s) ⊎ (e ≡ with_root s r)
 
-kept_next : (s : List ℕ) (r : ℕ) (e f : List ℕ) → length s ≡ anchor_bytes → Kept s r e → (f ≡ e) ⊎ (f ≡ take 24 e ++ be8 r) → Kept s r f
-kept_next s r e f long k (inl q) = subst (Kept s r) (sym q) k
-kept_next s r e f long k (inr q) =
-    let h = ap (λ (l : List ℕ). l ++ be8 r) k.0 in
-    let front : length (take 24 s) ≡ 24 = length-take-le 24 s (omega arith) in
-    (ap (take 24) (q ∙ h) ∙ take-append-le 24 (take 24 s) (be8 r) (omega arith) ∙ take_all 24 (take 24 s) (omega arith), inr (q ∙ h))
+kept_next : (s : List ℕ) (r : ℕ) (e f : List ℕ) → Kept s r e → (f ≡ e) ⊎ (f ≡ with_root e r) → Kept s r f
+kept_next s r e f k (inl q) = subst (Kept s r) (sym q) k
+kept_next s r e f (inl p) (inr q) = inr (q ∙ ap (λ (l : List ℕ). with_root l r) p)
+kept_next s r e f (inr p) (inr q) = inr (q ∙ ap (λ (l : List ℕ). with_root l r) p ∙ sets-again (be8 r) s 24)
 
-puts-bytes : (qs : List PutCalled) (g : Going) (s e b : List ℕ) (r : ℕ) → length s ≡ anchor_bytes → Stands e g.anchor
-    → StandsPlan b g.plan → g.plan.root.0 ≡ r → PutsMeet e b qs → Kept s r e → Kept s r (last_anchor e qs)
-puts-bytes [] g s e b r long a p root m k = k
-puts-bytes (q ∷ qs) g s e b r long a p root m k =
-    puts-bytes qs (after_put g q.step) s q.anchor q.plan r long (anchor-here g q e b a p qs m) (plan-here g q e b a p qs m)
+puts-bytes : (qs : List PutCalled) (g : Going) (s e b : List ℕ) (r : ℕ) → Stands e g.anchor → StandsPlan b g.plan
+    → g.plan.root.0 ≡ r → PutsMeet e b qs → Kept s r e → Kept s r (last_anchor e qs)
+puts-bytes [] g s e b r a p root m k = k
+puts-bytes (q ∷ qs) g s e b r a p root m k =
+    puts-bytes qs (after_put g q.step) s q.anchor q.plan r (anchor-here g q e b a p qs m) (plan-here g q e b a p qs m)
     (root-here g q e b a p qs m ∙ root) m.2
-    (kept_next s r e q.anchor long k
-    (subst (λ (t : ℕ). (q.anchor ≡ e) ⊎ (q.anchor ≡ take 24 e ++ be8 t)) root (bytes-here g q e b a p qs m)))
+    (kept_next s r e q.anchor k
+    (subst (λ (t : ℕ). (q.anchor ≡ e) ⊎ (q.anchor ≡ with_root e t)) root (bytes-here g q e b a p qs m)))
 
 -- what is known after it
 pub put-left : (g : Going) (q : PutCalled) → PutTold g q → (after_put g q.step).left ≡ cond (eqb q.code 0) q.card g.left
@@ -156,16 +155,27 @@ none_moves (q ∷ qs) s b card m n =
 
 -- The plan
 
--- it leaves the anchor
-pub plan-anchor : (F : List ℕ → List ℕ) (a : Anchor) (card : List ℕ) (i : ℕ) (block ranges : List ℕ)
-    → (planned F a card i block ranges).call.anchor ≡ a
-unfolding planned
-plan-anchor F a card i block ranges = go (answer_of F a card (write i block ranges))
-  where
-    go : (x : Answer) → (plan_settled F x a card i block ranges).call.anchor ≡ a
-    go Whole = refl
-    go (Wrong u) = refl
-    go (Refused r) = refl
+module _ (F : List ℕ → List ℕ) (a : Anchor) (card : List ℕ) (i : ℕ) (block ranges : List ℕ) where
+  -- it leaves the anchor's depth,
+  pub plan-depth : (planned F a card i block ranges).call.anchor.depth ≡ a.depth
+  unfolding planned
+  plan-depth = go (answer_of F a card (write i block ranges))
+    where
+      go : (x : Answer) → (plan_settled F x a card i block ranges).call.anchor.depth ≡ a.depth
+      go Whole = refl
+      go (Wrong u) = refl
+      go (Refused r) = refl
+
+  -- and refused all of it
+  refused-anchor : is_whole (planned F a card i block ranges).call.answer ≡ false → (planned F a card i block ranges).call.anchor ≡ a
+  unfolding planned
+  refused-anchor = go (answer_of F a card (write i block ranges))
+    where
+      go : (x : Answer) → is_whole (plan_settled F x a card i block ranges).call.answer ≡ false
+          → (plan_settled F x a card i block ranges).call.anchor ≡ a
+      go Whole e = contrary refl e
+      go (Wrong u) e = refl
+      go (Refused r) e = refl
 
 -- the plan that pat_plan makes with the anchor a
 abbrev pub plan_on : Anchor → PlanCalled → Planned
@@ -186,22 +196,19 @@ module _ (a : Anchor) (s : List ℕ) (stands : Stands s a) (p : PlanCalled) (qs 
   abbrev o : Planned
   o = plan_on a p
 
-  pub plan-codes : HostsPlan (hosted_plan p.room p.buffer (plan_on a p))
-      p.code p.plan p.left p.lent p.messages
+  pub plan-codes : HostsPlan (hosted_plan s p.room p.buffer (plan_on a p))
+      p.code p.anchor p.plan p.left p.lent p.messages
   plan-codes =
-      subst (λ (c : Anchor). HostsPlan (hosted_plan p.room p.buffer (plan_on c p))
-      p.code p.plan p.left p.lent p.messages) stands.is
-      (plan-told s p.card p.room p.index p.block p.ranges p.buffer p.code p.plan p.left p.lent p.messages
+      subst (λ (c : Anchor). HostsPlan (hosted_plan s p.room p.buffer (plan_on c p))
+      p.code p.anchor p.plan p.left p.lent p.messages) stands.is
+      (plan-told s p.card p.room p.index p.block p.ranges p.buffer p.code p.anchor p.plan p.left p.lent p.messages
       stands.long m.0.plan-room m.0.message-room m.0.says)
 
-  begun-stands : Stands s (plan_on a p).call.anchor
-  begun-stands = subst (Stands s) (sym (plan-anchor (cmac_of a.key) a p.card p.index p.block p.ranges)) stands
-
-  stored : p.code ≡ 0 → StandsPlan p.plan (plan_on a p).plan
-  stored zero =
-      subst (λ (c : Anchor). StandsPlan p.plan (plan_on c p).plan) stands.is
-      (plan-stored s p.card p.room p.index p.block p.ranges p.buffer p.code p.plan p.left p.lent p.messages
-      m.0.says zero)
+  pub plan-stands : p.code ≡ 0 → Stands p.anchor (plan_on a p).call.anchor × StandsPlan p.plan (plan_on a p).plan
+  plan-stands zero =
+      subst (λ (c : Anchor). Stands p.anchor (plan_on c p).call.anchor × StandsPlan p.plan (plan_on c p).plan) stands.is
+      (plan-stored s p.card p.room p.index p.block p.ranges p.buffer p.code p.anchor p.plan p.left p.lent p.messages
+      m.0.says stands.long zero)
 
   accepted-code : is_whole o.call.answer ≡ true → p.code ≡ 0
   accepted-code e = eqb-true p.code 0 (code_is o.call.answer p.code plan-codes.coded ∙ e)
@@ -212,27 +219,36 @@ module _ (a : Anchor) (s : List ℕ) (stands : Stands s a) (p : PlanCalled) (qs 
   -- accepted, its puts are the puts of the list
   pub split-puts : p.code ≡ 0 → PutsTold (begun (plan_on a p)) qs
   split-puts zero =
-      puts-told qs (begun o) s p.plan begun-stands (stored zero) m.1
+      let k = plan-stands zero in
+      puts-told qs (begun o) p.anchor p.plan k.0 k.1 m.1
 
-  pub split-stands : Stands (last_anchor s qs) (split_outcome (plan_on a p) (put_steps qs)).anchor
+  -- refused, they leave what it was given
+  refused-puts : is_whole o.call.answer ≡ false → (last_anchor p.anchor qs ≡ p.anchor) × (last_card p.left qs ≡ p.left)
+  refused-puts e = none_moves qs p.anchor p.plan p.left m.1 (m.2 (refused-code e))
+
+  pub split-stands : Stands (last_anchor p.anchor qs) (split_outcome (plan_on a p) (put_steps qs)).anchor
   split-stands = go (is_whole o.call.answer) refl
     where
-      go : (b : Bool) → is_whole o.call.answer ≡ b → Stands (last_anchor s qs) (cond b (finished o (put_steps qs)) o.call).anchor
-      go true e = last-anchor qs (begun o) s begun-stands (split-puts (accepted-code e))
+      go : (b : Bool) → is_whole o.call.answer ≡ b → Stands (last_anchor p.anchor qs) (cond b (finished o (put_steps qs)) o.call).anchor
+      go true e =
+          let zero = accepted-code e in
+          last-anchor qs (begun o) p.anchor (plan-stands zero).0 (split-puts zero)
       go false e =
-          subst (λ (l : List ℕ). Stands l o.call.anchor)
-          (sym (none_moves qs s p.plan p.left m.1 (m.2 (refused-code e))).0) begun-stands
+          let k = plan-refused s p.card p.room p.index p.block p.ranges p.buffer p.code p.anchor p.plan p.left p.lent p.messages
+          m.0.says (refused-code e) in
+          subst (λ (l : List ℕ). Stands l o.call.anchor) (sym ((refused-puts e).0 ∙ k.0))
+          (subst (Stands s) (sym (refused-anchor (cmac_of a.key) a p.card p.index p.block p.ranges e)) stands)
 
   split-left : last_card p.left qs ≡ (split_outcome (plan_on a p) (put_steps qs)).card
   split-left = go (is_whole o.call.answer) refl
     where
       go : (b : Bool) → is_whole o.call.answer ≡ b → last_card p.left qs ≡ (cond b (finished o (put_steps qs)) o.call).card
       go true e = ap (λ (l : List ℕ). last_card l qs) plan-codes.left ∙ last-card qs (begun o) (split-puts (accepted-code e))
-      go false e = (none_moves qs s p.plan p.left m.1 (m.2 (refused-code e))).1 ∙ plan-codes.left
+      go false e = (refused-puts e).1 ∙ plan-codes.left
 
   -- what was answered and left is what the list has
   pub split-codes : Codes (split_outcome (plan_on a p) (put_steps qs)) p.code
-      (anchor_of (last_anchor s qs)) (last_card p.left qs) p.lent
+      (anchor_of (last_anchor p.anchor qs)) (last_card p.left qs) p.lent
   split-codes =
       record {
         coded = plan-codes.coded ∙ ap code_of (sym (split-same o (put_steps qs)).0);
@@ -248,7 +264,8 @@ module _ (a : Anchor) (s : List ℕ) (stands : Stands s a) (p : PlanCalled) (qs 
       puts-untouched qs (begun o) (split-puts zero) (subst (λ (l : List ℕ). PutsUntouched l qs) plan-codes.left u)
 
   -- the anchor's bytes in the end, accepted
-  pub split-bytes : p.code ≡ 0 → (last_anchor s qs ≡ s) ⊎ (last_anchor s qs ≡ take 24 s ++ be8 (plan_on a p).plan.root.0)
+  pub split-bytes : p.code ≡ 0
+      → (last_anchor p.anchor qs ≡ p.anchor) ⊎ (last_anchor p.anchor qs ≡ with_root p.anchor (plan_on a p).plan.root.0)
   split-bytes zero =
-      (puts-bytes qs (begun o) s s p.plan o.plan.root.0 stands.long
-      begun-stands (stored zero) refl m.1 (refl, inl refl)).1
+      let k = plan-stands zero in
+      puts-bytes qs (begun o) p.anchor p.anchor p.plan o.plan.root.0 k.0 k.1 refl m.1 (inl refl)

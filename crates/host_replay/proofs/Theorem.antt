@@ -1,31 +1,39 @@
 -- Demand 3 of the functions for C, by their contracts alone.
-use mathlib.Core.Path.{◌≡◌, refl, sym, ap, subst, ◌∙◌}
+use mathlib.Core.Path.{◌≡◌, refl, sym, ap, ap₂, subst, ◌∙◌}
+use mathlib.Core.Bool.{Bool, true, false, ◌&&◌}
 use mathlib.Core.List.{List, [], ◌∷◌, ◌++◌}
 use Prim.Native.Nat.{ℕ}
+use borrow.Author.Tests.{eq-eqb, eqb-true}
+use lib.Dec.{eqb}
 use lib.ListN.{length, drop}
 use Rattle.cmac.specs.Cmac.{cmac_of}
 use Rattle.tree.specs.Layout.{IsCard}
 use Rattle.cmac.proofs.Laws.{length-cmac}
-use Rattle.tree.specs.Calls.{Call, Outcome, outcome, format}
+use Rattle.tree.specs.Calls.{Call, renews, Outcome, outcome, format}
 use Rattle.tree.specs.declared.Anchor.{Anchor}
 use Rattle.tree.proofs.CallLaws.{format-in}
 use Rattle.plan.specs.Split.{planned, joined}
 use Rattle.replay.specs.Places.{Place}
-use Rattle.replay.specs.Run.{State, start, result, next, after}
+use Rattle.plan.proofs.ListLaws.{both-and}
+use Rattle.journal.specs.Journal.{journal_of}
+use Rattle.replay.specs.Run
+use Rattle.replay.specs.Run.{State, heard, has_stood, start, result, next, after}
 use Rattle.replay.specs.Claim.{Complete, AllComplete}
-use Rattle.replay.proofs.PlaceLaws.{first, later, no_place, at_places}
-use Rattle.replay.proofs.Anchors.{next-key}
+use Rattle.replay.proofs.PlaceLaws.{first, later, earlier, mapped, no_place, at_places}
+use Rattle.replay.proofs.Anchors.{next-key, after-key}
 use Rattle.replay.proofs.Along.{everywhere}
-use Rattle.replay.proofs.Theorem.{demand3, unforged, afresh}
+use Rattle.replay.proofs.Theorem.{demand3, unforged, afresh, nonces}
 use Rattle.host_bytes.specs.Host.{anchor_bytes, anchor_of, code_of, Codes}
 use Rattle.host_bytes.specs.RoundTrip.{Stands}
 use Rattle.host_bytes.proofs.AnchorLaws.{whole_code, call-stands, call-codes, format-whole, format-left, format-stands}
-use Rattle.host_replay.specs.Called.{Held, bytes, struct, anchor_in, Back, PlanCalled, PutCalled, Called, call, split, given_to, step_of}
+use Rattle.host_replay.specs.Called.{Held, bytes, struct, anchor_in, Back, PlanCalled, PutCalled, AttemptCalled, Called, call, split}
+use Rattle.host_replay.specs.Called.{attempt, given_to, step_of}
 use Rattle.host_replay.specs.Called.{steps, back_of, Says}
 use Rattle.host_replay.specs.Called.{Meets, Handed, History, Formatted, begin, Demand3Of}
-use Rattle.host_replay.specs.Plain.{Each, Filled, FilledIn, AllFilled}
-use Rattle.host_replay.proofs.SplitSteps.{split-stands, plan-codes, split-codes}
-use Rattle.host_replay.proofs.Filling.{filled-completes}
+use Rattle.host_replay.specs.Plain.{all_put, stands, reserves, FilledIn, AllFilled}
+use Rattle.host_replay.proofs.SplitSteps.{code_is, plan_on, split-stands, plan-codes, split-codes}
+use Rattle.host_replay.proofs.Attempts.{journalled_on, attempt-told, attempt-stands, attempt-codes, attempt-journals}
+use Rattle.host_replay.proofs.Filling.{fills-is, rights-so}
 
 -- One call
 
@@ -68,6 +76,7 @@ Told o b = Codes o b.code (anchor_in b.anchor) b.card b.lent
 step-long : (r : Called) → Long (given_to r) → Meets r → Long (back_of r).anchor
 step-long (call given card c back) l m = says-long given back.anchor card c back.code back.card back.lent l m
 step-long (split given p qs) l m = (split-stands (anchor_of given) given (record { long = l; is = refl }) p qs m).long
+step-long (attempt given t) l m = (attempt-stands (anchor_of given) given (record { long = l; is = refl }) t m).long
 
 -- is what the list has, after what is known
 step-told : (r : Called) (s : State) → anchor_in (given_to r) ≡ s.store.anchor → Long (given_to r) → Meets r
@@ -76,15 +85,37 @@ step-told (call given card c back) s e l m =
     subst (λ (a : Anchor). Told (outcome (cmac_of a.key) a card c) back) e
     (says-codes given back.anchor card c back.code back.card back.lent l m)
 step-told (split given p qs) s e l m = split-codes s.store.anchor given (record { long = l; is = e }) p qs m
+step-told (attempt given t) s e l m = attempt-codes s.store.anchor given (record { long = l; is = e }) t m
+
+both-refused : {a b c d : Bool} → a ≡ c → (c ≡ true → b ≡ d) → (a && b) ≡ (c && d)
+both-refused {c = true} e f = ap₂ ◌&&◌ e (f refl)
+both-refused {b = b} {c = false} e f = ap (λ (x : Bool). x && b) e
+
+-- it stands in the list where it stands in C's own terms, and reserves nonces where it does there
+abbrev pub SameFate : List ℕ → State → Called → Type 0
+SameFate key s r =
+    (Run.stands (cmac_of key) s.store (step_of r) ≡ stands r) × (Run.reserves (cmac_of key) s.store (step_of r) ≡ reserves r)
+
+step-stands : (r : Called) (s : State) → anchor_in (given_to r) ≡ s.store.anchor → Long (given_to r) → Meets r
+    → SameFate s.store.anchor.key s r
+step-stands (call given card c back) s e l m =
+    let o = outcome (cmac_of s.store.anchor.key) s.store.anchor card c in
+    let w = sym (code_is o.answer back.code (step-told (call given card c back) s e l m).coded) in
+    (w, ap (λ (b : Bool). b && renews c) w)
+step-stands (split given p qs) s e l m =
+    let a = s.store.anchor in
+    let stood : Stands given a = record { long = l; is = e } in
+    let w = sym (code_is (plan_on a p).call.answer p.code (plan-codes a given stood p qs m).coded) in
+    (both-refused w (λ z. fills-is a given stood p qs m (eqb-true p.code 0 z)), w)
+step-stands (attempt given t) s e l m =
+    let w = sym (code_is (journalled_on s.store.anchor t).call.answer t.code
+    (attempt-told s.store.anchor given (record { long = l; is = e }) t m).coded) in
+    (ap (λ (b : Bool). b && has_stood t.fate) w, ap (λ (b : Bool). b && heard t.fate) w)
 
 -- Each step of a history is one of the list.
 module _ (key : List ℕ) where
   abbrev F : List ℕ → List ℕ
   F = cmac_of key
-
-  -- what a step answered and left, after those before it
-  abbrev pub Tells : State → List Called → Called → Type 0
-  Tells s before r = Told (result F (after F s (steps before)).store (step_of r)) (back_of r)
 
   -- the anchor's bytes, if it is given bytes, are of their length, and stand for what is known
   abbrev pub Knows : State → Held → Type 0
@@ -100,6 +131,9 @@ module _ (key : List ℕ) where
     pub told_here : Told (result (cmac_of key) s.store (step_of r)) (back_of r)
     told_here =
         subst (λ (l : List ℕ). Told (result (cmac_of l) s.store (step_of r)) (back_of r)) k.0 (step-told r s given_is given-long m)
+
+    pub stands-here : SameFate key s r
+    stands-here = subst (λ (l : List ℕ). SameFate l s r) k.0 (step-stands r s given_is given-long m)
 
     pub knows-next : Complete (cmac_of key) s.store (step_of r) → Knows (next (cmac_of key) s (step_of r)) (back_of r).anchor
     unfolding next
@@ -144,27 +178,35 @@ module _ (key : List ℕ) where
       p.messages ≡ ms ++ drop (length ms) p.buffer)
       f.knows.0 (plan-codes z.store.anchor given (split-stood given p qs z f) p qs f.met).gave
 
-  module _ (n : ℕ) where
-    completed : (r : Called) (z : State) → Follows z r → z.store.anchor.depth ≡ n → FilledIn key n r
-        → Complete (cmac_of key) z.store (step_of r)
-    completed (call given card c back) z f d h = tt
-    completed (split given p qs) z f d h =
-        subst (λ (l : List ℕ). Complete (cmac_of l) z.store (step_of (split given p qs))) f.knows.0
-        (λ w.
-        let a = z.store.anchor in
-        let stands = split-stood given p qs z f in
-        let zero = (plan-codes a given stands p qs f.met).coded ∙ ap code_of w ∙ whole_code in
-        filled-completes a given stands p qs f.met zero
-        (subst (λ (m : ℕ). Filled a.key m p qs) (sym d) (subst (λ (l : List ℕ). Filled l n p qs) (sym f.knows.0) (h zero))))
+  -- and an attempt that answered 0 its journal
+  pub fills-journal : (given : List ℕ) (t : AttemptCalled) (z : State) → Follows z (attempt given t) → t.code ≡ 0
+      → t.filled ≡ journal_of (cmac_of key) z.store.anchor.depth (anchor_of t.anchor).root.0 t.index t.left
+  fills-journal given t z f zero =
+      let r : Called = attempt given t in
+      subst (λ (l : List ℕ). t.filled ≡ journal_of (cmac_of l) z.store.anchor.depth (anchor_of t.anchor).root.0 t.index t.left)
+      f.knows.0
+      (attempt-journals z.store.anchor given
+      (record { long = given-long r z f.held f.knows f.handed f.met; is = given_is r z f.held f.knows f.handed f.met }) t f.met zero)
 
-    pub completes : (rs : List Called) (s : State) (h : Held) → Knows s h → s.store.anchor.depth ≡ n → History h rs
-        → Each rs (λ before r. FilledIn key n r) → AllComplete (cmac_of key) s (steps rs)
-    completes [] s h k d ran f = λ p. absurd (no_place p)
-    completes (r ∷ rs) s h k d ran f =
-        let here = completed r s (record { held = h; knows = k; handed = ran.0; met = ran.1 }) d (f (first r rs)) in
-        everywhere F (λ z x. Complete F z.store x) s (step_of r) (steps rs) here
-        (completes rs (next F s (step_of r)) (back_of r).anchor (knows-next r s h k ran.0 ran.1 here)
-        ((next-key F (length-cmac key) s (step_of r) here).1 ∙ d) ran.2 (λ p. f (later r p)))
+  completed : (r : Called) (z : State) → Follows z r → FilledIn r → Complete (cmac_of key) z.store (step_of r)
+  completed (call given card c back) z f h = tt
+  completed (split given p qs) z f h =
+      subst (λ (l : List ℕ). Complete (cmac_of l) z.store (step_of (split given p qs))) f.knows.0
+      (λ w v.
+      let a = z.store.anchor in
+      let stood = split-stood given p qs z f in
+      let zero = (plan-codes a given stood p qs f.met).coded ∙ ap code_of w ∙ whole_code in
+      rights-so a given stood p qs f.met zero
+      (h (both-and (eqb p.code 0) (all_put given p qs) (eq-eqb p.code 0 zero) (sym (fills-is a given stood p qs f.met zero) ∙ v))))
+  completed (attempt given t) z f h = tt
+
+  pub completes : (rs : List Called) (s : State) (h : Held) → Knows s h → History h rs → AllFilled rs
+      → AllComplete (cmac_of key) s (steps rs)
+  completes [] s h k ran f = λ p. absurd (no_place p)
+  completes (r ∷ rs) s h k ran f =
+      let here = completed r s (record { held = h; knows = k; handed = ran.0; met = ran.1 }) (f (first r rs)) in
+      everywhere F (λ z x. Complete F z.store x) s (step_of r) (steps rs) here
+      (completes rs (next F s (step_of r)) (back_of r).anchor (knows-next r s h k ran.0 ran.1 here) ran.2 (λ p. f (later r p)))
 
 module _ (anchor card made left : List ℕ) (formatted : Formatted anchor card 0 made left) (rs : List Called)
     (ran : History (bytes made) rs) where
@@ -195,13 +237,17 @@ module _ (anchor card made left : List ℕ) (formatted : Formatted anchor card 0
   depth_is = refl
 
   -- filled split writes are complete
-  pub filled-complete : AllFilled anchor rs → AllComplete (cmac_of (anchor_of anchor).key) (begin anchor card) (steps rs)
-  filled-complete f = completes k n rs (begin anchor card) (bytes made) (keyed, begun.long, begun.is) depth_is ran f
+  pub filled-complete : AllFilled rs → AllComplete (cmac_of (anchor_of anchor).key) (begin anchor card) (steps rs)
+  filled-complete f = completes k rs (begin anchor card) (bytes made) (keyed, begun.long, begun.is) ran f
 
   pub followed : AllComplete (cmac_of (anchor_of anchor).key) (begin anchor card) (steps rs) → (p : Place rs)
       → Follows (anchor_of anchor).key
       (after (cmac_of (anchor_of anchor).key) (begin anchor card) (steps p.before)) p.item
   followed complete = follows k rs (begin anchor card) complete (bytes made) (keyed, begun.long, begun.is) ran
+
+  pub complete-before : AllComplete (cmac_of (anchor_of anchor).key) (begin anchor card) (steps rs) → (p : Place rs)
+      → AllComplete (cmac_of (anchor_of anchor).key) (begin anchor card) (steps p.before)
+  complete-before complete p q = complete (earlier (mapped step_of p) q)
 
   pub demand3-of-calls : AllComplete (cmac_of (anchor_of anchor).key) (begin anchor card) (steps rs) → Demand3Of anchor card made left rs
   demand3-of-calls complete =
@@ -211,8 +257,14 @@ module _ (anchor card made left : List ℕ) (formatted : Formatted anchor card 0
         demand = demand3 k n is-card.deep is-card.shallow card is-card.full (steps rs) complete;
         unforged = unforged k n is-card.deep is-card.shallow card is-card.full (steps rs) complete;
         afresh = afresh k n is-card.deep is-card.shallow card is-card.full (steps rs) complete;
+        nonces = nonces k n is-card.deep is-card.shallow card is-card.full (steps rs) complete;
         gave = λ p given q qs e. gives k given q qs (after (cmac_of k) (begin anchor card) (steps p.before))
             (subst (Follows k (after (cmac_of k) (begin anchor card) (steps p.before))) e (followed complete p));
+        journals = λ p given t e zero.
+            let z = after (cmac_of k) (begin anchor card) (steps p.before) in
+            let kept = after-key (cmac_of k) (length-cmac k) (steps p.before) (begin anchor card) (complete-before complete p) in
+            fills-journal k given t z (subst (Follows k z) e (followed complete p)) zero
+            ∙ ap (λ (d : ℕ). journal_of (cmac_of k) d (anchor_of t.anchor).root.0 t.index t.left) (kept.1 ∙ depth_is);
         told = λ p.
             let f = followed complete p in
             told_here k p.item (after (cmac_of k) (begin anchor card) (steps p.before)) f.held f.knows f.handed f.met;

@@ -1,6 +1,6 @@
 // Calls that a limit refuses.
 use steps::{Card, Left, Levels, Turn, short};
-use tree::{BlockIndex, Nonce};
+use tree::{Anchor, BlockIndex, Nonce};
 
 // What is too short for a read or a write, or too high.
 #[derive(Clone, Copy)]
@@ -37,7 +37,7 @@ enum BadWipe {
 }
 
 // A wipe of a card that is too short, or under another anchor: with a depth past the last, with a root nonce that is no multiple of the
-// depth, or with one after which none are left. The anchor stays.
+// depth, or with a reserved one after which none are left. The anchor stays.
 pub fn wipe(turn: &mut Turn, levels: Levels, card: &mut [u8]) -> Left {
     let bad = turn.draw.pick_of(&[
         BadWipe::Card,
@@ -50,17 +50,23 @@ pub fn wipe(turn: &mut Turn, levels: Levels, card: &mut [u8]) -> Left {
     match bad {
         BadWipe::Card => return short::by_one(card, |card| other.wipe(card)),
         BadWipe::Depth => other.anchor.depth = 16 + levels,
-        BadWipe::RootNonce => other.anchor.root = beside(levels, other.anchor.root),
-        BadWipe::NoncesSpent => other.anchor.root = Nonce(u64::MAX - u64::MAX % levels),
+        BadWipe::RootNonce => other.anchor = beside(levels, other.anchor),
+        BadWipe::NoncesSpent => other.anchor.reserved = Nonce(u64::MAX - u64::MAX % levels),
     }
     other.wipe(card)
 }
 
-// Beside a multiple of the depth a number that is none. At depth 1, where every number is one, it is the last.
-fn beside(levels: u64, multiple: Nonce) -> Nonce {
+// With a root nonce beside its own, which is no multiple of the depth. At depth 1, where every number is one, the reserved nonce is the last.
+fn beside(levels: u64, anchor: Anchor) -> Anchor {
     if levels == 1 {
-        Nonce(u64::MAX)
+        Anchor {
+            reserved: Nonce(u64::MAX),
+            ..anchor
+        }
     } else {
-        Nonce(multiple.0 ^ 1)
+        Anchor {
+            root: Nonce(anchor.root.0 ^ 1),
+            ..anchor
+        }
     }
 }

@@ -4,7 +4,7 @@ use mathlib.Core.Path.{◌≡◌, refl, sym, ap, ap₂, subst, ◌∙◌}
 use mathlib.Core.List.Memᴰ
 use mathlib.Core.List.{List, [], ◌∷◌, ◌++◌, append-nil, Memᴰ}
 use mathlib.Core.Logic.{◌⊎◌, inl, inr, ⊎_elim}
-use Prim.Native.Nat.{ℕ, ◌+◌, ◌-◌, ◌^◌, ◌<◌, ◌≤◌}
+use Prim.Native.Nat.{ℕ, ◌+◌, ◌*◌, ◌-◌, ◌^◌, ◌<◌, ◌≤◌}
 use native.Mathlib.Omega.{arith}
 use lib.ListN.{length, take, drop, length-take, length-drop}
 use lib.Seq.{sets, length-sets, take_at, drop_at, ext_get_or}
@@ -14,17 +14,19 @@ use Rattle.tree.specs.Layout.{card_length}
 use Rattle.tree.specs.Card.{written}
 use Rattle.tree.specs.Ranges.{Range, ranges_of}
 use Rattle.tree.proofs.ByteLaws.{at-sets-apart, at-sets-first, sets-there}
-use Rattle.tree.proofs.RangeLaws.{total, Outside, written-outside}
+use Rattle.tree.proofs.RangeLaws.{total, ranges-total, Outside, written-outside}
 use Rattle.tree.proofs.WriteLaws.{written-length}
 use Rattle.journal.specs.Journal.{gathered, scattered}
 use Rattle.journal.proofs.GatherLaws.{Fit, length-part, length-gathered, ranges-fit}
 
+-- a card keeps its length
 pub length-scattered : (rs : List Range) (new card : List ℕ) → length (scattered rs new card) ≡ length card
 unfolding scattered
 length-scattered [] new card = refl
 length-scattered (r ∷ rs) new card =
     length-scattered rs (drop r.count new) (sets card r.start (take r.count new)) ∙ length-sets card r.start (take r.count new)
 
+-- and every byte outside the ranges
 pub scattered-outside : (rs : List Range) (new card : List ℕ) (j : ℕ) → Outside j rs → at (scattered rs new card) j ≡ at card j
 unfolding scattered
 scattered-outside [] new card j out = refl
@@ -47,6 +49,7 @@ pub record Beside (rs : List Range) (c d : List ℕ) : Type 0 where
   pub long : length c ≡ length d
   pub stands : (j : ℕ) → Outside j rs → at c j ≡ at d j
 
+-- where there is no range, they are equal
 pub beside-none : (c d : List ℕ) → Beside [] c d → c ≡ d
 beside-none c d b = ext_get_or 0 c d b.long (λ j h. b.stands j (λ r m. absurd (Memᴰ.not-nil m)))
 
@@ -80,8 +83,7 @@ beside-put r rs x c d fits l b = record { long = length-sets c r.start x ∙ b.l
         (λ (high : r.start + r.count ≤ j). beside j out (inr high)) (below_or_not j (r.start + r.count)))
         (below_or_not j r.start)
 
--- The same bytes put into the same ranges of both: no difference is left. So bytes that are put again change nothing, whatever was done
--- to these ranges in between.
+-- the same bytes put into the same ranges of both: no difference is left
 pub scattered-same : (rs : List Range) (new c d : List ℕ) → Fit (length c) rs → total rs ≤ length new → Beside rs c d
     → scattered rs new c ≡ scattered rs new d
 unfolding scattered total
@@ -115,16 +117,35 @@ scattered-back rs c d f b =
 
 -- Cards beside each other
 
+-- either way round
 pub beside-sym : (rs : List Range) (c d : List ℕ) → Beside rs c d → Beside rs d c
 beside-sym rs c d b = record { long = sym b.long; stands = λ j out. sym (b.stands j out) }
 
+-- over a third card
 pub beside-trans : (rs : List Range) (c d e : List ℕ) → Beside rs c d → Beside rs d e → Beside rs c e
 beside-trans rs c d e a b = record { long = a.long ∙ b.long; stands = λ j out. a.stands j out ∙ b.stands j out }
 
+-- a card and the same with bytes put into its ranges
 pub beside-scattered : (rs : List Range) (new card : List ℕ) → Beside rs (scattered rs new card) card
 beside-scattered rs new card = record { long = length-scattered rs new card; stands = scattered-outside rs new card }
 
--- of a write's ranges
+-- bytes that are put again, whatever was done to these ranges in between
+pub scattered-again : (rs : List Range) (new c d : List ℕ) → Fit (length c) rs → total rs ≤ length new
+    → Beside rs d (scattered rs new c) → scattered rs new d ≡ scattered rs new c
+scattered-again rs new c d f l b =
+    let e : length d ≡ length c = b.long ∙ length-scattered rs new c in
+    scattered-same rs new d c (λ r m. omega (arith, f r m)) l (beside-trans rs d (scattered rs new c) c b (beside-scattered rs new c))
+
+-- The same of the ranges of a write
+
+-- new bytes of a journal that are put again
+pub ranges-again : (n i : ℕ) → i < 2 ^ n → 1 ≤ n → (new c d : List ℕ) → length new ≡ 40 * n + 56 → length c ≡ card_length n
+    → Beside (ranges_of n i) d (scattered (ranges_of n i) new c) → scattered (ranges_of n i) new d ≡ scattered (ranges_of n i) new c
+ranges-again n i inside deep new c d size full b =
+    scattered-again (ranges_of n i) new c d (λ r m. omega (arith, ranges-fit n i inside deep n (omega arith) r m))
+    (omega (arith, ranges-total n i inside deep)) b
+
+-- a card's own bytes in these ranges, put into another
 pub ranges-back : (n i : ℕ) → i < 2 ^ n → 1 ≤ n → (c d : List ℕ) → length d ≡ card_length n → Beside (ranges_of n i) c d
     → scattered (ranges_of n i) (gathered (ranges_of n i) d) c ≡ d
 ranges-back n i inside deep c d full b =
@@ -132,6 +153,7 @@ ranges-back n i inside deep c d full b =
 
 module _ (F : List ℕ → List ℕ) (F16 : (m : List ℕ) → length (F m) ≡ 16) (n : ℕ) (deep : 1 ≤ n) (t r : ℕ) (card : List ℕ) (i : ℕ)
     (b : List ℕ) (full : length card ≡ card_length n) (inside : i < 2 ^ n) (long : length b ≡ 64) where
+  -- a card before and after a write
   pub beside-written : Beside (ranges_of n i) card (written F n t r card i b)
   beside-written =
       record {

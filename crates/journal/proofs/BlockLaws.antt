@@ -21,6 +21,7 @@ use Rattle.journal.specs.Journal.{block_from, block_of}
 abbrev Short : List Range → Type 0
 Short rs = (r : Range) → Memᴰ r rs → r.start + r.count < 2 ^ 32
 
+-- as bytes they tell the ranges
 encode-inj : (rs ss : List Range) → Short rs → Short ss → length rs ≡ length ss → encode rs ≡ encode ss → rs ≡ ss
 unfolding encode
 encode-inj [] [] a b l e = refl
@@ -46,11 +47,13 @@ list-tells n i j h l hi hj e =
 
 -- Of k blocks, from j on
 
+-- that block i, one of these, has the list
 record Found (n k j : ℕ) (list : List ℕ) (i : ℕ) : Type 0 where
   low : j ≤ i
   high : i < j + k
   is : list ≡ encode (ranges_of n i)
 
+-- a block that is found has it
 from-some : (n k j : ℕ) (list : List ℕ) (i : ℕ) → block_from n k j list ≡ some i → Found n k j list i
 unfolding block_from
 from-some n zero j list i e = cc
@@ -63,6 +66,7 @@ from-some n (suc k) j list i e = go (λ f. from-some n k (suc j) list i f) (same
         record { low = omega arith; high = omega arith; is = same-is list _ p ∙ ap (λ (m : ℕ). encode (ranges_of n m)) is }
     go later false p e = let f = later e in record { low = omega (arith, f.low); high = omega (arith, f.high); is = f.is }
 
+-- where none is found, none has
 from-none : (n k j : ℕ) (list : List ℕ) → block_from n k j list ≡ none → (i : ℕ) → Found n k j list i → ⊥
 unfolding block_from
 from-none n zero j list e i f = omega (arith, f.low, f.high)
@@ -85,10 +89,11 @@ pub record IsList (n : ℕ) (list : List ℕ) (i : ℕ) : Type 0 where
   pub inside : i < 2 ^ n
   pub is : list ≡ encode (ranges_of n i)
 
--- a block that is found has the list, and where none is found, none has
+-- a block that is found has the list
 pub block-some : (n : ℕ) (list : List ℕ) (i : ℕ) → block_of n list ≡ some i → IsList n list i
 block-some n list i e = let f = from-some n (2 ^ n) 0 list i e in record { inside = omega (arith, f.high); is = f.is }
 
+-- where none is found, none has it
 pub block-none : (n : ℕ) (list : List ℕ) → block_of n list ≡ none → (i : ℕ) → IsList n list i → ⊥
 block-none n list e i f =
     from-none n (2 ^ n) 0 list e i (record { low = omega arith; high = omega (arith, f.inside); is = f.is })
@@ -103,6 +108,7 @@ block-is n list i h l f = go (block_of n list) refl
         let g = block-some n list j e in
         e ∙ ap some (list-tells n j i h l g.inside f.inside (sym g.is ∙ f.is))
 
+-- the list of a block
 pub block-own : (n i : ℕ) → 1 ≤ n → n ≤ 16 → i < 2 ^ n → block_of n (encode (ranges_of n i)) ≡ some i
 block-own n i h l inside = block-is n (encode (ranges_of n i)) i h l (record { inside = inside; is = refl })
 

@@ -35,6 +35,7 @@ number-read s o v w x hx hw e f g = bytes-inj 4 w x hw hx (g ∙ be4-turned v x 
 abbrev pub lower : ℕ → ℕ → ℕ → Range
 lower n i k = let u = path_node n i (suc k) in range_of n u (2 * (u / 2))
 
+-- where its start stands in the list
 lower-part : (n i k : ℕ) → part (encode (ranges_to n i (suc k))) (16 * k) 4 ≡ be 4 (lower n i k).start
 unfolding ranges_to encode
 lower-part n i k =
@@ -45,10 +46,12 @@ lower-part n i k =
     ∙ ap (take 4) (drop_at x y (16 * k) (ranges-length n i k))
     ∙ take_at (be 4 r.start) _ 4 (length-be 4 r.start)
 
+-- it is one of the ranges
 lower-among : (n i k : ℕ) → Memᴰ (lower n i k) (ranges_to n i (suc k))
 unfolding ranges_to
 lower-among n i k = Memᴰ.append_right (ranges_to n i k) (Memᴰ.head refl)
 
+-- at the leaves its start tells the block
 lower-leaf : (n i u : ℕ) → 1 ≤ n → u ≡ 2 ^ n + i → ((range_of n u (2 * (u / 2))).start + 16 - offset n (2 ^ n)) / 80 ≡ i
 lower-leaf n i u h e =
     let p = pow-suc 2 (n - 1) in
@@ -67,6 +70,7 @@ pub record Tells (n i : ℕ) (list : List ℕ) : Type 0 where
   pub here : part list (16 * (n - 1)) 4 ≡ be 4 start
   pub tells : (start + 16 - offset n (2 ^ n)) / 80 ≡ i
 
+-- the list of a block does
 pub lower-tells : (n i : ℕ) → 1 ≤ n → n ≤ 16 → i < 2 ^ n → Tells n i (encode (ranges_of n i))
 lower-tells n i h l inside =
     let q : suc (n - 1) ≡ n = omega arith in

@@ -34,6 +34,7 @@ list_stored n i s h =
     ∙ sym (sets-eq x s 8 (omega arith))
 
 module _ (n t i : ℕ) (card : List ℕ) (inside : i < 2 ^ n) (deep : 1 ≤ n) (full : length card ≡ card_length n) where
+  -- how many bytes the message of a journal has
   pub message-size : length (journal_message n t i card) ≡ message_length n
   unfolding journal_message
   message-size =

@@ -21,14 +21,17 @@ use Rattle.journal.specs.Journal.{gathered}
 abbrev pub Fit : ℕ → List Range → Type 0
 Fit m rs = (r : Range) → Memᴰ r rs → r.start + r.count ≤ m
 
+-- a part of a string that is so long
 pub length-part : (s : List ℕ) (o k : ℕ) → o + k ≤ length s → length (part s o k) ≡ k
 length-part s o k h = simp (length-take, length-drop) (omega arith)
 
+-- those of two lists, one behind the other
 pub gathered-append : (rs ss : List Range) (card : List ℕ) → gathered (rs ++ ss) card ≡ gathered rs card ++ gathered ss card
 unfolding gathered
 gathered-append [] ss card = refl
 gathered-append (r ∷ rs) ss card = simp (gathered-append rs ss card, append_assoc)
 
+-- as many bytes as the ranges have
 pub length-gathered : (rs : List Range) (card : List ℕ) → Fit (length card) rs → length (gathered rs card) ≡ total rs
 unfolding gathered total
 length-gathered [] card f = refl
@@ -38,6 +41,7 @@ length-gathered (r ∷ rs) card f =
     (length-gathered rs card (λ q m. f q (Memᴰ.tail m)))
 
 module _ (n i : ℕ) (inside : i < 2 ^ n) (deep : 1 ≤ n) where
+  -- a write's ranges lie on the card
   pub ranges-fit : (k : ℕ) → k ≤ n → Fit (card_length n) (ranges_to n i k)
   ranges-fit k h r m =
       let p : 2 ^ k ≤ 2 ^ n = pow_mono h in
@@ -50,6 +54,7 @@ module _ (n i : ℕ) (inside : i < 2 ^ n) (deep : 1 ≤ n) where
       )
 
   module _ (card : List ℕ) (full : length card ≡ card_length n) where
+    -- the same of a card
     fit : (k : ℕ) → k ≤ n → Fit (length card) (ranges_to n i k)
     fit k h r m = omega (arith, ranges-fit k h r m)
 
@@ -57,9 +62,11 @@ module _ (n i : ℕ) (inside : i < 2 ^ n) (deep : 1 ≤ n) where
     pub gathered-length : length (gathered (ranges_of n i) card) ≡ 40 * n + 56
     gathered-length = length-gathered (ranges_of n i) card (fit n (omega arith)) ∙ ranges-total n i inside deep
 
+    -- those of the levels above the leaf
     gathered-inner : (k : ℕ) → k < n → length (gathered (ranges_to n i k) card) ≡ 40 * k
     gathered-inner k h = length-gathered (ranges_to n i k) card (fit k (omega arith)) ∙ total-inner n i inside k h
 
+    -- the bytes of a range
     abbrev piece : Range → List ℕ
     piece r = part card r.start r.count
 

@@ -11,6 +11,7 @@ use Rattle.tree.specs.Ranges.{Range, range_of, range_pair, ranges_to}
 use Rattle.tree.proofs.RangeLaws.{total, total-inner}
 use Rattle.journal.specs.Journal.{scattered}
 
+-- into the ranges of two lists, one after the other
 pub scattered-append : (rs ss : List Range) (new card : List ℕ)
     → scattered (rs ++ ss) new card ≡ scattered ss (drop (total rs) new) (scattered rs new card)
 unfolding scattered total

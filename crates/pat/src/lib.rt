@@ -1,14 +1,16 @@
-// The calls for C, which the static library pat_c exports: format, read, write, check, wipe, a write's plan and the put of a tag, and the
-// write on an anchor in its place. A slice passes as a pointer and a length. The anchor is 40 bytes: key, depth, root nonce and reserved
-// nonce, the numbers in eight bytes each, big-endian; the write in place has it as a struct. A plan is 24 bytes: block number, new root nonce and filled
-// places, in the same way. A plan's messages have 656 bytes at every depth, a tag 16. Since C calls, the answer is one number: that of the
-// refusal plus 256 times the node, 0 when accepted. It leaves out how often the cipher was called.
+// The calls for C, which the static library pat_c exports: format, read, write, check, wipe, a write's plan and the put of a tag, the write
+// on an anchor in its place, the journalled write and the recovery. A slice passes as a pointer and a length. The anchor is 40 bytes: key,
+// depth, root nonce and reserved nonce, the numbers in eight bytes each, big-endian; the write in place has it as a struct. A plan is 24
+// bytes: block number, new root nonce and filled places, in the same way. A plan's messages have 656 bytes at every depth, a tag 16. Since
+// C calls, the answer is one number: that of the refusal plus 256 times the node, 0 when accepted. It leaves out how often the cipher was
+// called.
 #![tactic(auto)]
 
 ghost use Rattle.std.specs.Prelude.{[]};
 ghost use Rattle.cmac.specs.Cmac.{cmac_of};
 ghost use Rattle.tree.specs.Calls.{read, write, check, wipe, outcome};
 ghost use Rattle.host_bytes.specs.Host.{Hosts, host_call, host_format, Codes};
+ghost use Rattle.host_bytes.specs.Journal.{host_journalled, HostsJournalled, host_recovery};
 ghost use Rattle.host_bytes.specs.Split.{host_plan, HostsPlan, host_put, HostsPut};
 
 use host_bytes::{REFUSED_LENGTH, anchor, code};
@@ -150,4 +152,31 @@ pub extern "C" fn pat_put_tag(
         result anchor.new plan.new card.new }
 {
     host_split::put_tag(anchor, plan, card, node, tag)
+}
+
+// Writes a block and fills the journal: the anchor that is stored first goes into `raised`, and the final nonces into the anchor.
+#[unsafe(no_mangle)]
+pub extern "C" fn pat_write_journalled(
+    anchor: &mut [u8],
+    raised: &mut [u8],
+    card: &mut [u8],
+    index: u64,
+    block: &[u8],
+    ranges: &mut [u8],
+    journal: &mut [u8],
+) -> u64
+    ensures { HostsJournalled
+        (host_journalled anchor.old raised.old card.old index block.now
+        ranges.old journal.old)
+        result anchor.new raised.new card.new ranges.new journal.new }
+{
+    host_journal::write(anchor, raised, card, index, block, ranges, journal)
+}
+
+// Brings the card to the anchor's root nonce where the journal is for that.
+#[unsafe(no_mangle)]
+pub extern "C" fn pat_recover(anchor: &[u8], card: &mut [u8], journal: &[u8]) -> u64
+    ensures { Hosts (host_recovery anchor.now card.old journal.now) result anchor.now card.new [] }
+{
+    host_journal::recover(anchor, card, journal)
 }

@@ -6,6 +6,7 @@ ghost use Rattle.std.specs.Prelude.{[]};
 ghost use Rattle.cmac.specs.Cmac.{cmac_of};
 ghost use Rattle.tree.specs.Calls.{read, write, check, wipe, outcome};
 ghost use Rattle.host_bytes.specs.Host.{Hosts, host_call, host_format, Codes};
+ghost use Rattle.host_bytes.specs.Journal.{host_journalled, HostsJournalled, host_recovery};
 ghost use Rattle.host_bytes.specs.Split.{host_plan, HostsPlan, host_put, HostsPut};
 
 use tree::Anchor;
@@ -101,4 +102,29 @@ pub extern "C" fn pat_put_tag(
         result anchor.new plan.new card.new }
 {
     pat::pat_put_tag(anchor, plan, card, node, tag)
+}
+
+#[unsafe(no_mangle)]
+pub extern "C" fn pat_write_journalled(
+    anchor: &mut [u8],
+    raised: &mut [u8],
+    card: &mut [u8],
+    index: u64,
+    block: &[u8],
+    ranges: &mut [u8],
+    journal: &mut [u8],
+) -> u64
+    ensures { HostsJournalled
+        (host_journalled anchor.old raised.old card.old index block.now
+        ranges.old journal.old)
+        result anchor.new raised.new card.new ranges.new journal.new }
+{
+    pat::pat_write_journalled(anchor, raised, card, index, block, ranges, journal)
+}
+
+#[unsafe(no_mangle)]
+pub extern "C" fn pat_recover(anchor: &[u8], card: &mut [u8], journal: &[u8]) -> u64
+    ensures { Hosts (host_recovery anchor.now card.old journal.now) result anchor.now card.new [] }
+{
+    pat::pat_recover(anchor, card, journal)
 }

@@ -10,9 +10,7 @@ use lib.ListN.{length}
 use Rattle.words.specs.Bytes.{same}
 use Rattle.words.proofs.Same.{same-is, same_refl}
 use Rattle.tree.specs.Nodes.{path_node}
-use Rattle.tree.specs.Calls.{Call, read, write, check, wipe, checks, Outcome, answer_of, done}
-use Rattle.tree.specs.Answer.{Answer}
-use Rattle.tree.specs.Answer.{Whole, Wrong, Refused}
+use Rattle.tree.specs.Calls.{Call, read, write, check, wipe, checks, Outcome, done}
 use Rattle.tree.proofs.LimitLaws.{Passes}
 use Rattle.tree.proofs.CallLaws.{read-checks, write-checks, check-checks, accepted, outcome-answer, outcome-done}
 use Rattle.replay.specs.Run.{Step, call, split, attempt, card_of, call_of, told, State, stands, next, after}

@@ -1,6 +1,6 @@
 -- The anchor along a list: key and depth stay; the reserved nonce is n times the writes and wipes that reserved, the root nonce is at most
 -- that, both are multiples of n, and where nothing was lost both are n times the writes and wipes that stand.
-use mathlib.Core.Path.{◌≡◌, refl, sym, ap, ap₂, subst, ◌∙◌}
+use mathlib.Core.Path.{◌≡◌, refl, ap, ap₂, ◌∙◌}
 use mathlib.Core.Bool.{Bool, true, false, not, cond, ◌&&◌}
 use mathlib.Core.List.{List, [], ◌∷◌}
 use Prim.Native.Nat.{ℕ, ◌+◌, ◌*◌, ◌%◌, ◌≤◌}

@@ -9,7 +9,7 @@ use Rattle.cmac.specs.Cmac.{cmac_of}
 use Rattle.tree.specs.Layout.{IsCard}
 use Rattle.std.specs.Result.{result_unwrap_or}
 use Rattle.tree.specs.Answer.{is_whole, answer_in, limited_in}
-use Rattle.tree.specs.Calls.{read, write, check, wipe, outcome, format}
+use Rattle.tree.specs.Calls.{read, write, check, wipe, formatted, outcome, format}
 use Rattle.tree.specs.declared.Anchor.{Anchor}
 use Rattle.tree.specs.Answer.{Answer}
 use Rattle.tree.specs.Answer.{Whole}
@@ -27,11 +27,17 @@ use Rattle.calls.proofs.check.Reads as check-code
 use Rattle.calls.proofs.wipe.Reads as wipe-code
 use Rattle.split.proofs.plan.Reads as plan-code
 use Rattle.split.proofs.put_tag.Reads as put-code
+use Rattle.recovery.proofs.write.Reads as attempt-code
 use Rattle.replay.specs.Places.{Place}
-use Rattle.replay.specs.Run.{State, finished, split_outcome, start, result, next, after}
+use Rattle.cmac.specs.Traced.{subkeys_count, cmac_count}
+use Rattle.journal.specs.Journal.{journal_of}
+use Rattle.journal.specs.Journalled.{Journalled, journalled, Journals}
+use Rattle.journal.proofs.JournalledLaws.{journalled-answer, journalled-done}
+use Rattle.replay.specs.Run.{Fate, unheard, lost, stood, State, finished, split_outcome, anchor_after, attempt_outcome, start, result, next}
+use Rattle.replay.specs.Run.{after}
 use Rattle.replay.specs.Claim.{AllComplete}
-use Rattle.replay.specs.Ran.{PlanRan, PutRan, Ran, call, split, step_of, steps, last_anchor, last_card, back_of, Tells, PutsMeet}
-use Rattle.replay.specs.Ran.{PlanMeets, Meets, Formatted, History, Demand3Of}
+use Rattle.replay.specs.Ran.{PlanRan, PutRan, AttemptRan, Ran, call, split, attempt, chip_anchor, step_of, steps, last_anchor, last_card, back_of, Tells, PutsMeet}
+use Rattle.replay.specs.Ran.{PlanMeets, AttemptMeets, Meets, Formatted, History, Demand3Of}
 use Rattle.replay.proofs.PlaceLaws.{first, later, no_place, at_places}
 use Rattle.replay.proofs.Anchors.{next-key}
 use Rattle.replay.proofs.Theorem.{demand3, unforged, afresh}
@@ -41,7 +47,7 @@ use Rattle.replay.proofs.Theorem.{demand3, unforged, afresh}
 
 pub format-ran : (κs : _) (x : _) (r : _) (e : _) → format-code.Learnt κs x r e
     → Formatted x.0 x.1.0 x.1.1.0.now (limited_in r)
-    (result_unwrap_or r (record { key = x.0; depth = x.1.0; root = record { 0 = 0 } })) e.1.1.0.now
+    (result_unwrap_or r (formatted x.0 x.1.0)) e.1.1.0.now
 format-ran κs x r e learnt = learnt
 
 pub read-ran : (κs : _) (x : _) (r : _) (e : _) → read-code.Learnt κs x r e
@@ -77,8 +83,14 @@ pub plan-ran : (κs : _) (x : _) (r : _) (e : _) → plan-code.Learnt κs x r e
       block = x.1.1.1.0.now;
       ranges = x.1.1.1.1.0.now;
       buffer = x.1.1.1.1.1.0.now;
-      back = record { answer = answer_in r.value; count = r.count; anchor = x.0; card = e.1.0.now; lent = e.1.1.1.1.0.now };
-      plan = result_unwrap_or r.value no_plan;
+      back = record {
+        answer = answer_in r.value;
+        count = r.count;
+        anchor = (result_unwrap_or r.value (record { anchor = x.0; plan = no_plan })).anchor;
+        card = e.1.0.now;
+        lent = e.1.1.1.1.0.now;
+      };
+      plan = (result_unwrap_or r.value (record { anchor = x.0; plan = no_plan })).plan;
       messages = e.1.1.1.1.1.0.now;
     })
 plan-ran κs x r e learnt = learnt
@@ -92,6 +104,27 @@ pub put-ran : (κs : _) (x : _) (r : _) (e : _) → put-code.Learnt κs x r e
       card = e.1.1.0.now;
     } ∷ [])
 put-ran κs x r e learnt = (learnt, tt)
+
+-- however far it came
+pub attempt-ran : (κs : _) (x : _) (r : _) (e : _) → attempt-code.Learnt κs x r e → (fate : Fate)
+    → AttemptMeets x.0 (record {
+      card = x.1.0.now;
+      index = x.1.1.0.0;
+      block = x.1.1.1.0.now;
+      ranges = x.1.1.1.1.0.now;
+      journal = x.1.1.1.1.1.0.now;
+      back = record {
+        answer = answer_in r.value;
+        count = r.count;
+        anchor = (result_unwrap_or r.value (record { raised = x.0; anchor = x.0 })).anchor;
+        card = e.1.0.now;
+        lent = e.1.1.1.1.0.now;
+      };
+      raised = (result_unwrap_or r.value (record { raised = x.0; anchor = x.0 })).raised;
+      filled = e.1.1.1.1.1.0.now;
+      fate = fate;
+    })
+attempt-ran κs x r e learnt fate = learnt
 
 -- A plan with its puts gave back what a split write is in the list.
 
@@ -169,10 +202,10 @@ module _ (key : List ℕ) where
         let k = sym (ap is_whole (plan-answer F a p.card p.index p.block p.ranges ∙ w)) ∙ f in
         let z : ◌≡◌ {A = ℕ} 0 1 = cc in omega arith)))
 
-    split-tells : Tells key (split_outcome o puts) (back_of (split p qs))
+    split-tells : Tells key (split_outcome o puts) (back_of a (split p qs))
     split-tells = go (is_whole o.call.answer) refl
       where
-        go : (b : Bool) → is_whole o.call.answer ≡ b → Tells key (cond b (finished o puts) o.call) (back_of (split p qs))
+        go : (b : Bool) → is_whole o.call.answer ≡ b → Tells key (cond b (finished o puts) o.call) (back_of a (split p qs))
         go true f =
             record {
               gives = record {
@@ -194,13 +227,54 @@ module _ (key : List ℕ) where
               counted = reported.counted;
             }
 
+  -- of an attempt
+  module _ (a : Anchor) (e : a.key ≡ key) (t : AttemptRan) (h : AttemptMeets a t) where
+    abbrev j : Journalled
+    j = journalled F a t.card t.index t.block t.ranges t.journal
+
+    keyed-journal : Journals (subkeys_count key) (cmac_count key) (journalled F a t.card t.index t.block t.ranges t.journal)
+        t.back.answer t.back.count t.raised t.back.anchor t.back.card t.back.lent t.filled
+    keyed-journal =
+        subst (λ (m : List ℕ). Journals (subkeys_count m) (cmac_count m) (journalled (cmac_of m) a t.card t.index t.block t.ranges t.journal)
+        t.back.answer t.back.count t.raised t.back.anchor t.back.card t.back.lent t.filled) e h
+
+    chip-same : (fate : Fate) → chip_anchor a t fate ≡ anchor_after a j fate
+    chip-same unheard = refl
+    chip-same lost = keyed-journal.raises
+    chip-same stood = keyed-journal.reports.gives.anchored
+
+    attempt-tells : Tells key (attempt_outcome a j t.fate) (back_of a (attempt t))
+    attempt-tells =
+        let k = keyed-journal.reports in
+        record {
+          gives = record {
+            answered = k.gives.answered;
+            anchored = chip-same t.fate;
+            left = k.gives.left;
+            filled = k.gives.filled;
+          };
+          counted = k.counted;
+        }
+
+    -- accepted, it filled the journal
+    attempt-journals : t.back.answer ≡ Whole → t.filled ≡ journal_of F a.depth t.back.anchor.root.0 t.index t.back.card
+    attempt-journals w =
+        let k = keyed-journal in
+        let g = k.reports.gives in
+        let v = sym (journalled-answer F a t.card t.index t.block t.ranges t.journal) ∙ sym g.answered ∙ w in
+        let d = journalled-done F a t.card t.index t.block t.ranges t.journal v in
+        k.journals ∙ ap (λ (q : Journalled). q.journal) d
+        ∙ ap₂ (λ (b : Anchor) (l : List ℕ). journal_of F a.depth b.root.0 t.index l)
+        (sym (g.anchored ∙ ap (λ (q : Journalled). q.call.anchor) d)) (sym (g.left ∙ ap (λ (q : Journalled). q.call.card) d))
+
   -- Each step of a history is one of the list: what it answered and left is the outcome that the list has at its place.
 
   step-tells : (s : State) → s.store.anchor.key ≡ key → (r : Ran) → Meets s.store.anchor r
-      → Tells key (result F s.store (step_of r)) (back_of r)
+      → Tells key (result F s.store (step_of r)) (back_of s.store.anchor r)
   step-tells s e (call card c back) h =
       subst (λ (m : List ℕ). Tells m (outcome (cmac_of m) s.store.anchor card c) back) e h
   step-tells s e (split p qs) h = split-tells s.store.anchor e p qs h
+  step-tells s e (attempt t) h = attempt-tells s.store.anchor e t h
 
   -- what its contract says of it, after the steps before it
   abbrev Met : State → List Ran → Ran → Type 0
@@ -218,8 +292,8 @@ module _ (key : List ℕ) where
       (follows rs (next F s (step_of r)) (λ p. complete (later (step_of r) p)) ((next-key F (length-cmac key) s (step_of r) done).0 ∙ k)
       (subst (λ (a : Anchor). History a rs) (moved r s (step-tells s k r h.0)) h.1))
     where
-      moved : (r : Ran) (s : State) → Tells key (result F s.store (step_of r)) (back_of r)
-          → (back_of r).anchor ≡ (next F s (step_of r)).store.anchor
+      moved : (r : Ran) (s : State) → Tells key (result F s.store (step_of r)) (back_of s.store.anchor r)
+          → (back_of s.store.anchor r).anchor ≡ (next F s (step_of r)).store.anchor
       moved r s here = here.gives.anchored
 
   -- a plan's messages
@@ -259,5 +333,8 @@ module _ (key : List ℕ) (n : ℕ) (card : List ℕ) (a : Anchor) (left : List 
         gave = λ p q qs e.
             let a = (after (cmac_of key) (start (cmac_of key) key n card) (steps p.before)).store.anchor in
             plan-gives key a (met p).0 q qs (subst (λ (r : Ran). Meets a r) e (met p).1);
+        journals = λ p t e w.
+            let a = (after (cmac_of key) (start (cmac_of key) key n card) (steps p.before)).store.anchor in
+            attempt-journals key a (met p).0 t (subst (λ (r : Ran). Meets a r) e (met p).1) w;
         told = λ p. step-tells key (after (cmac_of key) (start (cmac_of key) key n card) (steps p.before)) (met p).0 p.item (met p).1;
       }

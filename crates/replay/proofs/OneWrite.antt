@@ -1,6 +1,6 @@
 -- A plan whose puts fill it is one write for demand 3, and so is an attempt that stood; what a lost one leaves.
 use mathlib.Core.Path.{◌≡◌, refl, sym, ap, subst, ◌∙◌}
-use mathlib.Core.Bool.{Bool, true, false, cond, ◌&&◌}
+use mathlib.Core.Bool.{Bool, true, false, cond}
 use mathlib.Core.List.Memᴰ
 use mathlib.Core.List.{List, Memᴰ}
 use mathlib.Core.Logic.{◌⊎◌, inl, inr, ⊎_elim}
@@ -9,19 +9,18 @@ use lib.ListN.{length}
 use Rattle.tree.specs.Answer.{is_whole}
 use Rattle.tree.specs.Calls.{write, Outcome, answer_of}
 use Rattle.tree.specs.declared.Anchor.{Anchor}
-use Rattle.tree.specs.Answer.{Answer, Whole}
+use Rattle.tree.specs.Answer.{Whole}
 use Rattle.tree.proofs.CallLaws.{outcome-answer, outcome-done}
 use Rattle.plan.specs.Split.{Planned, planned}
 use Rattle.plan.specs.Puts.{PutStep, Going, begun, after_all_puts, EachPut, PutUntouched}
 use Rattle.plan.proofs.PlanLaws.{plan-answer, planned-refused, planned-lent}
-use Rattle.plan.proofs.ListLaws.{contrary}
-use Rattle.journal.specs.Journalled.{Journalled, journalled_answer, journalled}
+use Rattle.journal.specs.Journalled.{Journalled}
 use Rattle.journal.proofs.JournalledLaws.{journalled-answer, journalled-done, write-whole}
-use Rattle.replay.specs.Run.{Fate, unheard, lost, stood, Step, call, split, attempt, State, fills, finished, result, stands, next}
+use Rattle.replay.specs.Run.{Fate, stood, Step, call, split, attempt, State, fills, finished, result, next}
 use Rattle.replay.specs.Claim.{Complete}
 use Rattle.replay.specs.Tagged.{CallTags, JournalTags, StepTags}
 use Rattle.replay.specs.OneWrite.{Alike, OneWrite, LostWrite, StoodWrite, OneAttempt}
-use Rattle.replay.proofs.Moves.{whole-or-not, step-refused, step-whole, Tags, Wrote, Lost, call-wrote, call-left, split-wrote, split-leaves, split-lost}
+use Rattle.replay.proofs.Moves.{whole-or-not, step-refused, Wrote, Lost, call-wrote, call-left, split-wrote, split-leaves, split-lost}
 use Rattle.replay.proofs.Moves.{split-left, attempt-left}
 use Rattle.replay.proofs.Moves.{split-answer}
 use Rattle.replay.proofs.Moves.{attempt-unheard, attempt-refused, attempt-wrote, attempt-lost}

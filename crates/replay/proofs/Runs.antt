@@ -12,7 +12,8 @@ use Rattle.plan.specs.Puts.{PutStep}
 use Rattle.plan.specs.declared.Plan.{Plan}
 use Rattle.replay.specs.Run
 use Rattle.replay.specs.Run.{Step}
-use Rattle.replay.specs.Ran.{PlanRan, PutRan, Ran, call, split, step_of, back_of, PutsMeet, Meets, Runs}
+use Rattle.journal.specs.Journalled.{journalled}
+use Rattle.replay.specs.Ran.{PlanRan, PutRan, AttemptRan, Ran, call, split, attempt, step_of, back_of, PutsMeet, Meets, Runs}
 
 -- puts from any anchor and plan
 record PutsRun (a : Anchor) (p : Plan) (xs : List PutStep) : Type 0 where
@@ -74,10 +75,33 @@ step-runs a (Run.split card i block ranges xs) =
       );
       is = ap (λ (l : List PutStep). Run.split card i block ranges l) rest.are;
     }
+step-runs a (Run.attempt card i block ranges journal fate) =
+    let o = journalled (cmac_of a.key) a card i block ranges journal in
+    let k = count_of (subkeys_count a.key) (cmac_count a.key) o.call in
+    let t : AttemptRan = record {
+      card = card;
+      index = i;
+      block = block;
+      ranges = ranges;
+      journal = journal;
+      back = record { answer = o.call.answer; count = k; anchor = o.call.anchor; card = o.call.card; lent = o.call.lent };
+      raised = o.raised;
+      filled = o.journal;
+      fate = fate;
+    } in
+    record {
+      one = attempt t;
+      met = record {
+        reports = record { gives = record { answered = refl; anchored = refl; left = refl; filled = refl }; counted = refl };
+        raises = refl;
+        journals = refl;
+      };
+      is = refl;
+    }
 
 pub runs : (a : Anchor) (xs : List Step) → Runs a xs
 runs a [] = record { calls = []; ran = tt; are = refl }
 runs a (x ∷ xs) =
     let r = step-runs a x in
-    let rest = runs (back_of r.one).anchor xs in
+    let rest = runs (back_of a r.one).anchor xs in
     record { calls = r.one ∷ rest.calls; ran = (r.met, rest.ran); are = ap₂ (λ (y : Step) (l : List Step). y ∷ l) r.is rest.are }

@@ -1,9 +1,9 @@
 -- Demand 3, and what is tagged, for tags by CMAC under any key.
-use mathlib.Core.Path.{◌≡◌, refl, ap, ap₂, subst, sym, ◌∙◌}
+use mathlib.Core.Path.{◌≡◌, refl, ap, subst, sym, ◌∙◌}
 use mathlib.Core.List.Memᴰ
 use mathlib.Core.List.{List, [], ◌∷◌, map, append-nil, Memᴰ}
 use mathlib.Core.Logic.{inl, inr, ⊎_elim}
-use Prim.Native.Nat.{ℕ, ◌+◌, ◌*◌, ◌%◌, ◌^◌, ◌<◌, ◌≤◌}
+use Prim.Native.Nat.{ℕ, ◌+◌, ◌%◌, ◌^◌, ◌<◌, ◌≤◌}
 use Rattle.std.proofs.Math.Nat.{zero-mod}
 use native.Mathlib.Omega.{arith}
 use lib.ListN.{length}
@@ -24,7 +24,7 @@ use Rattle.replay.specs.Array.{zeroed}
 use Rattle.replay.specs.Places.{Place}
 use Rattle.plan.specs.Split.{planned}
 use Rattle.replay.specs.Run.{Step, call, split, call_of, State, fills, start, new_tags, next, after}
-use Rattle.replay.specs.Claim.{GivenLeft, Complete, Accepted, AcceptedWipe, known, AllComplete, Faithful, Demand3}
+use Rattle.replay.specs.Claim.{Complete, Accepted, AcceptedWipe, known, AllComplete, Demand3}
 use Rattle.replay.specs.OneWrite.{OneWrite, LostWrite, OneAttempt}
 use Rattle.replay.specs.Tagged.{ByCall, Unforged, Afresh}
 use Rattle.replay.proofs.Safe.{Backs, blank-backs}

@@ -1,6 +1,6 @@
 -- What is tagged, and that a card which nobody touched shows nothing else.
 use mathlib.Core.Path.{◌≡◌, refl, sym, ap, subst, ◌∙◌}
-use mathlib.Core.Bool.{Bool, true, false, ◌&&◌}
+use mathlib.Core.Bool.{true, ◌&&◌}
 use mathlib.Core.List.Memᴰ
 use mathlib.Core.List.{List, [], ◌∷◌, ◌++◌, map, Memᴰ}
 use mathlib.Core.Logic.{◌⊎◌, inl, inr, ⊎_elim}
@@ -11,7 +11,7 @@ use Rattle.tree.specs.Nodes.{all_nodes}
 use Rattle.tree.specs.Labels.{message, labels}
 use Rattle.tree.specs.Card.{blanked}
 use Rattle.tree.specs.Answer.{is_whole}
-use Rattle.tree.specs.Calls.{Call, read, write, check, wipe, is_write, renews, checks, answer_of}
+use Rattle.tree.specs.Calls.{Call, write, wipe, is_write, checks, answer_of}
 use Rattle.tree.specs.declared.Anchor.{Anchor}
 use Rattle.tree.specs.Answer.{Answer}
 use Rattle.tree.specs.Answer.{Whole}
@@ -28,7 +28,7 @@ use Rattle.plan.proofs.PlanLaws.{plan-answer, planned-done}
 use Rattle.plan.proofs.OrderLaws.{turns-fill, turns-right, waits-none}
 use Rattle.plan.proofs.TurnLaws.{turns-untouched-by}
 use Rattle.replay.specs.Places.{Place}
-use Rattle.replay.specs.Run.{Step, call, split, card_of, call_of, State, fills, new_tags, result, stands, next, after}
+use Rattle.replay.specs.Run.{Step, call, split, call_of, State, fills, new_tags, result, stands, next, after}
 use Rattle.replay.specs.Claim
 use Rattle.replay.specs.Claim.{GivenLeft, ChecksTagged, Complete, Untouched, AgreesHere, WroteUntouched, AcceptedWipe, known}
 use Rattle.replay.specs.Claim.{AllComplete, Agreement, Forgery, Faithful}

@@ -1,12 +1,12 @@
 -- A plan whose puts fill it is one write for demand 3, and so is an attempt that stood; a lost one tags its messages and moves nothing but
 -- the reserved nonce.
-use Rattle.std.specs.Prelude.{ℕ, ◌≡◌, true, false, ◌⊎◌}
+use Rattle.std.specs.Prelude.{ℕ, ◌≡◌, ◌⊎◌}
 use mathlib.Core.List.{List, Memᴰ}
 use Rattle.tree.specs.Calls.{write, raise}
 use Rattle.tree.specs.Answer.{Whole}
 use Rattle.plan.specs.Split.{planned}
 use Rattle.plan.specs.Puts.{PutStep, begun, after_all_puts, EachPut, PutUntouched}
-use Rattle.replay.specs.Run.{Fate, unheard, lost, stood, Step, call, split, attempt, State, fills, result, stands, next}
+use Rattle.replay.specs.Run.{Fate, unheard, lost, stood, Step, call, split, attempt, State, result, next}
 use Rattle.replay.specs.Tagged.{StepTags, JournalTags}
 
 -- Two steps answer and list the same, and move what is known alike, but for the card and the messages tagged: the anchor and the array.

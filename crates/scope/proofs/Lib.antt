@@ -4,3 +4,8 @@ pub mod ReadRule
 pub mod WipeRule
 pub mod CountRule
 pub mod SplitRule
+pub mod Failing
+pub mod ReserveRule
+pub mod Ordered
+pub mod JournalRule
+pub mod RecoveryRule

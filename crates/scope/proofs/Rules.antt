@@ -10,7 +10,8 @@ use Rattle.tree.specs.Calls.{limits, checks, format_answer}
 use Rattle.scope.specs.Rules.{Rules}
 
 pub rules : Rules
-unfolding be form encode ranges_to size offset up_to path_node sibling path pairs_but_leaf all_nodes checks limits first_failing format_answer
+unfolding be form encode ranges_to size offset up_to path_node sibling path pairs_but_leaf all_nodes checks limits first_failing
+    format_answer
 rules =
     record {
       number = refl;
@@ -25,6 +26,7 @@ rules =
       check-limits = λ a card. refl;
       format-depth = (refl, refl);
       format-card = refl;
+      journal-number = refl;
       whole-number = refl;
       wrong-number = λ u. refl;
     }

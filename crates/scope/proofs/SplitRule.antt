@@ -83,19 +83,20 @@ module _ (a : Anchor) (card : List ℕ) (i : ℕ) (block ranges : List ℕ) wher
     written : (outcome F a card (write i block ranges)).answer ≡ Whole
     written = outcome-answer F a card (write i block ranges) ∙ answer
 
-    ok : Writes a.depth a.root.0 card i block ranges
+    ok : Writes a card i block ranges
     ok = (accepted F a card (write i block ranges) answer).limits-passed
 
     engines : engines_count a card i block ranges ≡ 4 * a.depth + 6
     engines =
         let n = a.depth in
         let t = a.root.0 in
-        let L = written_labels n t t card i block in
+        let r = a.reserved.0 in
+        let L = written_labels n t r card i block in
         ap (total each) (ap (map (λ (g : Given). g.message)) (messages-are F a card i block ranges answer)
         ∙ map-given (given L) (plan_nodes n i))
         ∙ total-cost each 2 5 (count-17 a.key) (count-73 a.key) n L
-        (new-sized n t i block ok.inside (labels n t card) ok.long (labels-sized n t card ok.sound.full))
-        (ap length (new-root n t i block ok.inside (labels n t card) ok.sound.deep) ∙ length-be 8 (t + n))
+        (new-sized n r i block ok.inside (labels n t card) ok.long (labels-sized n t card ok.sound.full))
+        (ap length (new-root n r i block ok.inside (labels n t card) ok.sound.deep) ∙ length-be 8 (r + n))
         (plan_nodes n i) (plan-node n i ok.inside)
         ∙ plan-cost (cost_at 2 5 n) n i ∙ pairs-cost 2 5 n i ok.inside ok.sound.deep ∙ omega (arith, ok.sound.deep)
 

@@ -2,7 +2,7 @@
 use mathlib.Core.Path.{◌≡◌, refl, sym, ap, subst, ◌∙◌}
 use mathlib.Core.List.{List}
 use mathlib.Core.Logic.{inr}
-use Prim.Native.Nat.{ℕ, ◌+◌, ◌*◌, ◌^◌, ◌<◌, ◌≤◌}
+use Prim.Native.Nat.{ℕ, ◌+◌, ◌*◌, ◌%◌, ◌^◌, ◌<◌, ◌≤◌}
 use native.Mathlib.Omega.{arith}
 use lib.ListN.{length}
 use Rattle.tables.proofs.Tables.{sbox-at}
@@ -20,10 +20,16 @@ use Rattle.tree.specs.declared.Anchor.{Anchor}
 use Rattle.tree.specs.Answer.{Answer}
 use Rattle.tree.specs.Answer.{Whole}
 use Rattle.tree.proofs.LabelLaws.{labels-below}
-use Rattle.tree.proofs.LimitLaws.{Writes}
+use Rattle.tree.proofs.LimitLaws.{Sound, Writes}
 use Rattle.tree.proofs.WriteLaws.{written-length, written-labels, Clean, clean-blanked}
 use Rattle.tree.proofs.CallLaws.{accepted, clean-accepts, clean-done, outcome-answer, outcome-done, format-accept}
 use Rattle.scope.specs.Table.{anchor, refused, RowF, RowG, Table}
+
+-- where no nonce is lost, 1, 2 and 3 ask for a multiple of the depth and for the card's length
+sound-at : (key : List ℕ) (n t : ℕ) (card : List ℕ) → 1 ≤ n → n ≤ 16 → t % n ≡ 0 → length card ≡ card_length n
+    → Sound (anchor key n t t) card
+sound-at key n t card deep shallow m full =
+    record { deep = deep; shallow = shallow; multiple = m; reserved_multiple = m; within = omega arith; full = full }
 
 module _ (F : List ℕ → List ℕ) (F16 : (m : List ℕ) → length (F m) ≡ 16) where
   -- a write's new labels, on the card that it left
@@ -44,7 +50,7 @@ module _ (F : List ℕ → List ℕ) (F16 : (m : List ℕ) → length (F m) ≡ 
     abbrev call : Call
     call = write i b r
 
-    within : Clean F a.depth a.root.0 card → Writes a.depth a.root.0 card i b r
+    within : Clean F a.depth a.root.0 card → Writes a card i b r
         → (outcome F a card (write i b r)).answer ≡ Whole
     within clean p = outcome-answer F a card call ∙ clean-accepts F a card clean call p
 
@@ -55,7 +61,7 @@ module _ (F : List ℕ → List ℕ) (F16 : (m : List ℕ) → length (F m) ≡ 
     did : (outcome F a card (write i b r)).answer ≡ Whole → outcome F a card (write i b r) ≡ done F a card (write i b r)
     did w = outcome-done F a card call (whole w)
 
-    passed : (outcome F a card (write i b r)).answer ≡ Whole → Writes a.depth a.root.0 card i b r
+    passed : (outcome F a card (write i b r)).answer ≡ Whole → Writes a card i b r
     passed w = (accepted F a card call (whole w)).limits-passed
 
   -- the nonces of a write's path
@@ -87,37 +93,37 @@ module _ (F : List ℕ → List ℕ) (F16 : (m : List ℕ) → length (F m) ≡ 
         record {
           accepted = λ card full.
               let clean = formatted key 3 card (omega arith) (omega arith) full in
-              within (anchor key 3 0) (format F key 3 card).card 5 b r clean
+              within (anchor key 3 0 0) (format F key 3 card).card 5 b r clean
               (record {
-                sound = record { deep = omega arith; shallow = omega arith; multiple = refl; full = clean.full };
+                sound = sound-at key 3 0 _ (omega arith) (omega arith) refl clean.full;
                 inside = omega arith;
                 long = long;
                 room = omega arith;
                 unspent = omega arith;
               });
           nonces = λ card w.
-              let o = passed (anchor key 3 0) card 5 b r w in
+              let o = passed (anchor key 3 0 0) card 5 b r w in
               let n = row-f-nonces card b long o.sound.full in
-              rw (did (anchor key 3 0) card 5 b r w) (n.0, n.1, refl);
+              rw (did (anchor key 3 0 0) card 5 b r w) (n.0, n.1, refl);
         }
 
     module _ (c s : List ℕ) (room : length r ≡ 16 * 2) (longc : length c ≡ 64) (rooms : length s ≡ 16 * 2) where
       -- the second write, on what an accepted first one left
       abbrev then : List ℕ → Outcome
-      then card = outcome F (anchor key 2 2) (written F 2 0 0 card 2 b) (write 0 c s)
+      then card = outcome F (anchor key 2 2 2) (written F 2 0 0 card 2 b) (write 0 c s)
 
       then-nonces : (card : List ℕ) → length card ≡ card_length 2 → (then card).answer ≡ Whole
-          → (label 2 (then card).card 3 ≡ be8 1) × (label 2 (then card).card 2 ≡ be8 3) × ((then card).anchor.root.0 ≡ 4)
+          → (label 2 (then card).card 3 ≡ be8 1) × (label 2 (then card).card 2 ≡ be8 3) × ((then card).anchor ≡ anchor key 2 4 4)
       then-nonces card full w =
           let n = row-g-nonces card b long c full longc in
-          rw (did (anchor key 2 2) (written F 2 0 0 card 2 b) 0 c s w) (n.0, n.1, refl)
+          rw (did (anchor key 2 2 2) (written F 2 0 0 card 2 b) 0 c s w) (n.0, n.1, refl)
 
-      then-accepted : (card : List ℕ) → Clean F 2 0 card → Writes 2 0 card 2 b r → (then card).answer ≡ Whole
+      then-accepted : (card : List ℕ) → Clean F 2 0 card → Writes (anchor key 2 0 0) card 2 b r → (then card).answer ≡ Whole
       then-accepted card clean p =
-          let left = clean-done F F16 (anchor key 2 0) card (write 2 b r) p clean in
-          within (anchor key 2 2) (written F 2 0 0 card 2 b) 0 c s left
+          let left = clean-done F F16 (anchor key 2 0 0) card (write 2 b r) p clean in
+          within (anchor key 2 2 2) (written F 2 0 0 card 2 b) 0 c s left
           (record {
-            sound = record { deep = omega arith; shallow = omega arith; multiple = refl; full = left.full };
+            sound = sound-at key 2 2 _ (omega arith) (omega arith) refl left.full;
             inside = omega arith;
             long = longc;
             room = omega arith;
@@ -129,18 +135,18 @@ module _ (F : List ℕ → List ℕ) (F16 : (m : List ℕ) → length (F m) ≡ 
           record {
             accepted = λ card full.
                 let clean = formatted key 2 card (omega arith) (omega arith) full in
-                let p : Writes 2 0 (format F key 2 card).card 2 b r = record {
-                  sound = record { deep = omega arith; shallow = omega arith; multiple = refl; full = clean.full };
+                let p : Writes (anchor key 2 0 0) (format F key 2 card).card 2 b r = record {
+                  sound = sound-at key 2 0 _ (omega arith) (omega arith) refl clean.full;
                   inside = omega arith;
                   long = long;
                   room = omega arith;
                   unspent = omega arith;
                 } in
-                let w = within (anchor key 2 0) (format F key 2 card).card 2 b r clean p in
-                (w, rw (did (anchor key 2 0) (format F key 2 card).card 2 b r w) (then-accepted (format F key 2 card).card clean p));
+                let w = within (anchor key 2 0 0) (format F key 2 card).card 2 b r clean p in
+                (w, rw (did (anchor key 2 0 0) (format F key 2 card).card 2 b r w) (then-accepted (format F key 2 card).card clean p));
             nonces = λ card w v.
-                let e = did (anchor key 2 0) card 2 b r w in
-                let o = passed (anchor key 2 0) card 2 b r w in
+                let e = did (anchor key 2 0 0) card 2 b r w in
+                let o = passed (anchor key 2 0 0) card 2 b r w in
                 rw e (then-nonces card o.sound.full (rw e at v));
           }
 

@@ -9,7 +9,8 @@ use Rattle.tree.specs.Limits.{Limit}
 use Rattle.tree.specs.Calls.{read, write, check, limits, checks, format_answer}
 use Rattle.tree.specs.declared.Anchor.{Anchor}
 use Rattle.tree.specs.declared.Node.{Node}
-use Rattle.tree.specs.Answer.{Whole, Wrong}
+use Rattle.tree.specs.declared.Refusal.TheVariants.{Journal}
+use Rattle.tree.specs.Answer.{Whole, Wrong, Refused}
 
 abbrev pub numbers : List Limit → List ℕ
 numbers ls = map (λ (l : Limit). refusal_number l.refusal) ls
@@ -35,6 +36,8 @@ pub record Rules : Type 0 where
   pub check-limits : (a : Anchor) (card : List ℕ) → numbers (limits a card check) ≡ 1 ∷ 2 ∷ 3 ∷ []
   pub format-depth : (number_of (format_answer 0 []) ≡ 1) × (number_of (format_answer 17 []) ≡ 1)
   pub format-card : number_of (format_answer 1 []) ≡ 3
+  -- document 02: "10, a journal of another length, or one to be applied whose ranges no single write has"
+  pub journal-number : number_of (Refused Journal) ≡ 10
   -- "0 when accepted", "8: a checked mark is wrong"
   pub whole-number : number_of Whole ≡ 0
   pub wrong-number : (u : Node) → number_of (Wrong u) ≡ 8

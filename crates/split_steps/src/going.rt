@@ -3,7 +3,7 @@ ghost use Rattle.std.specs.Prelude.{◌≡◌, ◌*◌, ◌≤◌};
 
 use cmac::Context;
 use plan::{MESSAGE_BYTES, Plan};
-use split::Placed;
+use split::Progress;
 use steps::{Left, Target, Turn, left, sum};
 use tree::{BlockIndex, Error, Node, Nonce, Path};
 
@@ -24,7 +24,8 @@ pub struct Going {
 }
 
 impl Going {
-    // Plans a write of a block whose bytes are drawn, with so many bytes of the range buffer lent.
+    // Plans a write of a block whose bytes are drawn, with so many bytes of the range buffer lent, and goes on from the anchor that the plan
+    // answers.
     pub fn begin(turn: &mut Turn, target: Target, card: &mut [u8], lent: usize) -> Going
         requires { lent ≤ 101 }
     {
@@ -40,9 +41,14 @@ impl Going {
             &mut ranges[..lent],
             &mut messages,
         );
+        let Progress { anchor, plan } = planned.value.unwrap_or(Progress {
+            anchor: turn.anchor,
+            plan: NO_PLAN,
+        });
+        turn.anchor = anchor;
         let mut going = Going {
             target,
-            plan: planned.value.unwrap_or(NO_PLAN),
+            plan,
             tags: [[0; 16]; 13],
             left: Left {
                 ranges: sum::adler(&ranges),
@@ -96,7 +102,7 @@ impl Going {
             self.node(place),
             self.tags[place],
         );
-        if let Ok(Placed { anchor, plan }) = placed {
+        if let Ok(Progress { anchor, plan }) = placed {
             turn.anchor = anchor;
             self.plan = plan;
         }

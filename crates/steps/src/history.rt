@@ -40,6 +40,7 @@ impl History {
             key,
             depth,
             root: Nonce(0),
+            reserved: Nonce(0),
         });
         let left = Left::from(Counted {
             value: made.map_err(Error::from),

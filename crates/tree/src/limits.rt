@@ -77,8 +77,24 @@ pub fn nonces_spent(depth: u64, last: Nonce) -> Result<(), Refusal>
     unless(u64::MAX - depth < last.0, Refusal::NoncesSpent)
 }
 
-// 1 to 7 in a row, as a write and a plan test them. `len`, `block` and `ranges` are the lengths of the card, of the new block and of the
-// range buffer.
+// 4 to 7 in a row, which a write tests behind the first. `block` and `ranges` are the lengths of the new block and of the range buffer.
+pub fn write_rest(
+    anchor: Anchor,
+    index: BlockIndex,
+    block: usize,
+    ranges: usize,
+) -> Result<(), Refusal>
+    requires { anchor.depth ≤ 16 }
+    ensures { result ≡ tested (write_limits anchor index.0 block ranges) }
+{
+    let depth = anchor.card_depth();
+    block_number(depth, index)?;
+    block_length(block)?;
+    range_length(depth, ranges)?;
+    nonces_spent(anchor.depth, anchor.reserved)
+}
+
+// 1 to 7 in a row, as a write and a plan test them. `len` is the card's length.
 pub fn write(
     anchor: Anchor,
     len: usize,
@@ -89,9 +105,5 @@ pub fn write(
     ensures { result ≡ tested (first_limits anchor len ++ write_limits anchor index.0 block ranges) }
 {
     first(anchor, len)?;
-    let depth = anchor.card_depth();
-    block_number(depth, index)?;
-    block_length(block)?;
-    range_length(depth, ranges)?;
-    nonces_spent(anchor.depth, anchor.reserved)
+    write_rest(anchor, index, block, ranges)
 }

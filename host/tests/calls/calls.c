@@ -47,6 +47,14 @@ static uint64_t call(enum call kind, struct outcome *o, uint64_t index) {
     case PUT:
         return pat_put_tag(o->anchor.bytes, o->anchor.length, o->plan.bytes, o->plan.length,
                            o->card.bytes, o->card.length, index, o->buffer.bytes, o->buffer.length);
+    case JOURNALLED:
+        return pat_write_journalled(o->anchor.bytes, o->anchor.length, o->raised.bytes,
+                                    o->raised.length, o->card.bytes, o->card.length, index,
+                                    o->buffer.bytes, o->buffer.length, o->ranges.bytes,
+                                    o->ranges.length, o->journal.bytes, o->journal.length);
+    case RECOVER:
+        return pat_recover(o->anchor.bytes, o->anchor.length, o->card.bytes, o->card.length,
+                           o->journal.bytes, o->journal.length);
     }
     return UINT64_MAX;
 }
@@ -54,7 +62,7 @@ static uint64_t call(enum call kind, struct outcome *o, uint64_t index) {
 struct outcome perform(const struct arguments *a) {
     struct outcome o = {0};
     enum access changes = a->call == READ || a->call == CHECK ? READ_ONLY : READ_WRITE;
-    lend(&o.anchor, a->anchor, a->anchor_len, a->call == PLAN ? READ_ONLY : changes);
+    lend(&o.anchor, a->anchor, a->anchor_len, a->call == RECOVER ? READ_ONLY : changes);
     lend(&o.card, a->card, a->card_len, changes);
     lend(&o.buffer, a->buffer, a->buffer_len, a->call == READ ? READ_WRITE : READ_ONLY);
     lend(&o.ranges, a->ranges, a->ranges_len, READ_WRITE);
@@ -62,6 +70,10 @@ struct outcome perform(const struct arguments *a) {
         lend(&o.plan, a->plan, a->plan_len, READ_WRITE);
     if (a->call == PLAN)
         lend(&o.messages, a->messages, a->messages_len, READ_WRITE);
+    if (a->call == JOURNALLED)
+        lend(&o.raised, a->raised, a->raised_len, READ_WRITE);
+    if (a->call == JOURNALLED || a->call == RECOVER)
+        lend(&o.journal, a->journal, a->journal_len, a->call == RECOVER ? READ_ONLY : READ_WRITE);
     counted.calls++;
     o.answer = call(a->call, &o, a->index);
     return o;
@@ -74,24 +86,30 @@ void settle(struct outcome *o) {
     kept = take_back(&o->ranges) && kept;
     kept = take_back(&o->plan) && kept;
     kept = take_back(&o->messages) && kept;
+    kept = take_back(&o->raised) && kept;
+    kept = take_back(&o->journal) && kept;
     expect(kept, "a call wrote before the start of a buffer");
 }
 
 bool all_unchanged(const struct outcome *o) {
     return unchanged(&o->anchor) && unchanged(&o->card) && unchanged(&o->buffer) &&
-           unchanged(&o->ranges) && unchanged(&o->plan) && unchanged(&o->messages);
+           unchanged(&o->ranges) && unchanged(&o->plan) && unchanged(&o->messages) &&
+           unchanged(&o->raised) && unchanged(&o->journal);
 }
 
 struct arguments arguments_for(enum call kind, const struct store *s, uint64_t index,
                                const uint8_t *block) {
     static uint8_t ranges[PAT_MAX_RANGE_BYTES + 64], buffer[PAT_BLOCK_BYTES];
     static uint8_t plan[PAT_PLAN_BYTES + 64], messages[PAT_MESSAGES_BYTES + 64];
-    const bool writes = kind == WRITE || kind == PLAN;
+    static uint8_t raised[PAT_ANCHOR_BYTES + 64], journal[PAT_MAX_JOURNAL_BYTES + 64];
+    const bool writes = kind == WRITE || kind == PLAN || kind == JOURNALLED;
     struct arguments a = {.call = kind, .index = index, .anchor = s->anchor, .card = s->card};
     fill(ranges, sizeof ranges, 1);
     fill(buffer, sizeof buffer, 2);
     fill(plan, sizeof plan, 3);
     fill(messages, sizeof messages, 4);
+    fill(raised, sizeof raised, 5);
+    fill(journal, sizeof journal, 6);
     a.anchor_len = PAT_ANCHOR_BYTES;
     a.card_len = s->card_len;
     a.buffer = writes || kind == PUT ? block : buffer;
@@ -102,6 +120,10 @@ struct arguments arguments_for(enum call kind, const struct store *s, uint64_t i
     a.plan_len = PAT_PLAN_BYTES;
     a.messages = messages;
     a.messages_len = PAT_MESSAGES_BYTES;
+    a.raised = raised;
+    a.raised_len = PAT_ANCHOR_BYTES;
+    a.journal = journal;
+    a.journal_len = PAT_JOURNAL_BYTES(s->depth);
     return a;
 }
 
@@ -122,7 +144,7 @@ struct store make_store(unsigned depth) {
     fill(s.card, s.card_len, depth);
     memcpy(s.anchor, test_key, PAT_KEY_BYTES);
     pat_put_number(s.anchor + PAT_ANCHOR_DEPTH, depth);
-    pat_put_number(s.anchor + PAT_ANCHOR_ROOT, 0x0123456789abcdef);
+    set_nonces(&s, 0x0123456789abcdef, 0x0fedcba987654321);
     struct arguments a = arguments_for(FORMAT, &s, 0, NULL);
     struct outcome o = perform(&a);
     take_over(&s, &o, "a format");
@@ -135,6 +157,8 @@ struct store used_store(unsigned depth) {
     for (uint64_t k = 0; k < 4; k++) {
         fill(block, sizeof block, k);
         must_write(&s, k * 5 % ((uint64_t)1 << depth), block);
+        if (k % 2 == 1)
+            lose_attempt(&s);
     }
     return s;
 }
@@ -162,6 +186,20 @@ void must_wipe(struct store *s) {
     struct arguments a = arguments_for(WIPE, s, 0, NULL);
     struct outcome o = perform(&a);
     take_over(s, &o, "a wipe");
+}
+
+void lose_attempt(struct store *s) {
+    uint64_t reserved = nonce_of(s, PAT_ANCHOR_RESERVED);
+    pat_put_number(s->anchor + PAT_ANCHOR_RESERVED, reserved + s->depth);
+}
+
+uint64_t nonce_of(const struct store *s, size_t place) {
+    return pat_get_number(s->anchor + place);
+}
+
+void set_nonces(struct store *s, uint64_t root, uint64_t reserved) {
+    pat_put_number(s->anchor + PAT_ANCHOR_ROOT, root);
+    pat_put_number(s->anchor + PAT_ANCHOR_RESERVED, reserved);
 }
 
 void fill(uint8_t *bytes, size_t length, uint64_t seed) {

@@ -5,21 +5,22 @@
 #include "lent.h"
 #include "pat.h"
 
-enum call { FORMAT, READ, WRITE, CHECK, WIPE, PLAN, PUT };
+enum call { FORMAT, READ, WRITE, CHECK, WIPE, PLAN, PUT, JOURNALLED, RECOVER };
 
 // What a call is given. buffer is a read's buffer, the new block of a write or plan, or the tag
 // that is put, whose node is index.
 struct arguments {
     enum call call;
-    const uint8_t *anchor, *card, *buffer, *ranges, *plan, *messages;
+    const uint8_t *anchor, *card, *buffer, *ranges, *plan, *messages, *raised, *journal;
     size_t anchor_len, card_len, buffer_len, ranges_len, plan_len, messages_len;
+    size_t raised_len, journal_len;
     uint64_t index;
 };
 
 // What it leaves.
 struct outcome {
     uint64_t answer;
-    struct lent anchor, card, buffer, ranges, plan, messages;
+    struct lent anchor, card, buffer, ranges, plan, messages, raised, journal;
 };
 
 // A card and its anchor.
@@ -39,7 +40,7 @@ void settle(struct outcome *outcome);
 
 bool all_unchanged(const struct outcome *outcome);
 
-// A freshly formatted store, one some writes later, and a copy of one.
+// A freshly formatted store, one some writes and lost attempts later, and a copy of one.
 struct store make_store(unsigned depth);
 struct store used_store(unsigned depth);
 struct store copy_store(const struct store *store);
@@ -47,13 +48,23 @@ struct store copy_store(const struct store *store);
 void drop_store(struct store *store);
 
 // The arguments of a call on a store with all lengths right; a read's buffer, a range buffer, a
-// plan and messages have bytes of their own. block is the new block, or the tag.
+// plan, messages, a raised anchor and a journal have bytes of their own. block is the new block, or
+// the tag.
 struct arguments arguments_for(enum call call, const struct store *store, uint64_t index,
                                const uint8_t *block);
 
 // An accepted write or wipe: the store gets the anchor and the card that it left.
 void must_write(struct store *store, uint64_t index, const uint8_t *block);
 void must_wipe(struct store *store);
+
+// An attempt that is lost: of it nothing is left but the raised H.
+void lose_attempt(struct store *store);
+
+// T or H of a store, by its place in the anchor.
+uint64_t nonce_of(const struct store *store, size_t place);
+
+// Puts T and H into a store's anchor.
+void set_nonces(struct store *store, uint64_t root, uint64_t reserved);
 
 // Ends the test where something does not hold.
 void expect(bool holds, const char *format, ...) __attribute__((format(printf, 2, 3)));

@@ -5,8 +5,13 @@ static size_t pick(size_t variant, size_t count) {
 }
 
 static void anchor_length(struct draft *d, size_t variant) {
-    static const size_t lengths[] = {31, 33, 0, 1, 24, 40, 48, 64};
+    static const size_t lengths[] = {39, 41, 0, 1, 24, 32, 48, 64};
     d->arguments.anchor_len = lengths[pick(variant, 8)];
+}
+
+static void raised_length(struct draft *d, size_t variant) {
+    static const size_t lengths[] = {39, 41, 0, 1, 24, 32, 48, 64};
+    d->arguments.raised_len = lengths[pick(variant, 8)];
 }
 
 static void depth(struct draft *d, size_t variant) {
@@ -22,13 +27,31 @@ static void depth(struct draft *d, size_t variant) {
     pat_put_number(d->anchor + PAT_ANCHOR_DEPTH, depths[pick(variant, 8)]);
 }
 
-// Any T that is no multiple; near the end if it is there already.
-static void root_nonce(struct draft *d, size_t variant) {
-    uint64_t n = d->store->depth, root = pat_get_number(d->anchor + PAT_ANCHOR_ROOT);
-    uint64_t odd = root + 1 + pick(variant, n - 1);
-    if (root > UINT64_MAX - n)
+// A number of the anchor that is no multiple any more; near the end if it is there already.
+static void make_odd(struct draft *d, size_t place, size_t variant) {
+    uint64_t n = d->store->depth, number = pat_get_number(d->anchor + place);
+    uint64_t odd = number + 1 + pick(variant, n - 1);
+    if (number > UINT64_MAX - n)
         odd = UINT64_MAX % n != 0 ? UINT64_MAX : UINT64_MAX - 1;
-    pat_put_number(d->anchor + PAT_ANCHOR_ROOT, odd);
+    pat_put_number(d->anchor + place, odd);
+}
+
+// T or H is no multiple, or H is below T, by one step or as a whole number of zero.
+static void root_nonce(struct draft *d, size_t variant) {
+    uint64_t n = d->store->depth;
+    size_t kind = n == 1 ? 2 : pick(variant, 3);
+    if (kind < 2) {
+        make_odd(d, kind == 0 ? PAT_ANCHOR_ROOT : PAT_ANCHOR_RESERVED, variant / 3);
+        return;
+    }
+    uint64_t reserved = pat_get_number(d->anchor + PAT_ANCHOR_RESERVED);
+    uint64_t root = pat_get_number(d->anchor + PAT_ANCHOR_ROOT);
+    if (reserved > UINT64_MAX - n) // spent: T cannot be above it
+        pat_put_number(d->anchor + PAT_ANCHOR_RESERVED, root - n);
+    else if (pick(variant / 3, 2) == 0)
+        pat_put_number(d->anchor + PAT_ANCHOR_ROOT, reserved + n);
+    else
+        pat_put_number(d->anchor + PAT_ANCHOR_RESERVED, root - n);
 }
 
 static void card_length(struct draft *d, size_t variant) {
@@ -78,10 +101,19 @@ static void range_length(struct draft *d, size_t variant) {
     d->arguments.ranges_len = lengths[pick(variant, 5)];
 }
 
+// H is the last nonce, and T it too or as it was.
 static void spent(struct draft *d, size_t variant) {
-    (void)variant;
-    uint64_t n = d->store->depth;
-    pat_put_number(d->anchor + PAT_ANCHOR_ROOT, UINT64_MAX - UINT64_MAX % n);
+    uint64_t n = d->store->depth, last = UINT64_MAX - UINT64_MAX % n;
+    pat_put_number(d->anchor + PAT_ANCHOR_RESERVED, last);
+    if (pick(variant, 2) == 0)
+        pat_put_number(d->anchor + PAT_ANCHOR_ROOT, last);
+}
+
+static void journal_length(struct draft *d, size_t variant) {
+    size_t right = d->arguments.journal_len;
+    const size_t lengths[] = {right - 1,  right + 1,  0,         right - 56,
+                              right + 56, right - 16, right / 2, PAT_MAX_JOURNAL_BYTES + 56};
+    d->arguments.journal_len = lengths[pick(variant, 8)];
 }
 
 // One byte of a node that the call checks.
@@ -153,6 +185,8 @@ static void filled_place(struct draft *d, size_t variant) {
     { "spent", 7, spent }
 #define RANGE_LENGTH                                                                               \
     { "range length", 6, range_length }
+#define JOURNAL_LENGTH                                                                             \
+    { "journal length", 10, journal_length }
 #define PLAN_LENGTH                                                                                \
     { "plan length", 5, plan_length }
 
@@ -169,6 +203,19 @@ static const struct fault plan_faults[] = {
     DEPTH,         ROOT_NONCE,   CARD_LENGTH,
     BLOCK_NUMBER,  BLOCK_LENGTH, RANGE_LENGTH,
     SPENT,         TAG};
+static const struct fault journalled_faults[] = {ANCHOR_LENGTH,
+                                                 {"raised length", 5, raised_length},
+                                                 DEPTH,
+                                                 ROOT_NONCE,
+                                                 CARD_LENGTH,
+                                                 JOURNAL_LENGTH,
+                                                 BLOCK_NUMBER,
+                                                 BLOCK_LENGTH,
+                                                 RANGE_LENGTH,
+                                                 SPENT,
+                                                 TAG};
+static const struct fault recover_faults[] = {ANCHOR_LENGTH, DEPTH, ROOT_NONCE, CARD_LENGTH,
+                                              JOURNAL_LENGTH};
 static const struct fault put_faults[] = {ANCHOR_LENGTH,
                                           PLAN_LENGTH,
                                           {"tag length", 5, tag_length},
@@ -180,9 +227,14 @@ static const struct fault put_faults[] = {ANCHOR_LENGTH,
                                           {"filled place", 9, filled_place}};
 
 const struct subject subjects[] = {
-    {"format", FORMAT, format_faults, 3}, {"read", READ, read_faults, 7},
-    {"write", WRITE, write_faults, 9},    {"check", CHECK, check_faults, 5},
-    {"wipe", WIPE, wipe_faults, 5},       {"plan", PLAN, plan_faults, 11},
+    {"format", FORMAT, format_faults, 3},
+    {"read", READ, read_faults, 7},
+    {"write", WRITE, write_faults, 9},
+    {"check", CHECK, check_faults, 5},
+    {"wipe", WIPE, wipe_faults, 5},
+    {"plan", PLAN, plan_faults, 11},
     {"put", PUT, put_faults, 9},
+    {"journalled write", JOURNALLED, journalled_faults, 11},
+    {"recovery", RECOVER, recover_faults, 5},
 };
 const size_t subject_count = sizeof subjects / sizeof *subjects;

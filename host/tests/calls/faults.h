@@ -11,6 +11,7 @@ struct draft {
     uint8_t anchor[PAT_ANCHOR_BYTES + 64];
     uint8_t buffer[PAT_BLOCK_BYTES + 64];
     uint8_t plan[PAT_PLAN_BYTES + 64];
+    uint8_t journal[PAT_MAX_JOURNAL_BYTES + 64];
     uint8_t *card;
     uint64_t wrong; // the node spoiled, 0 for none
 };

@@ -53,7 +53,7 @@ static void expect_accepted(const struct outcome *o, const struct arguments *a, 
     if (a->call == READ)
         expect(memcmp(o->buffer.bytes, a->card + place, PAT_BLOCK_BYTES) == 0,
                "byte %zu: the block read", byte);
-    if (a->call != WRITE && a->call != PLAN)
+    if (a->call != WRITE && a->call != PLAN && a->call != JOURNALLED)
         return;
     expect(memcmp(o->card.bytes + place, a->buffer, PAT_BLOCK_BYTES) == 0,
            "byte %zu: the block written", byte);
@@ -103,6 +103,7 @@ static void try_calls(const struct store *s, const struct store *wiped, uint32_t
         try_call(s, READ, index, wrong, byte);
         try_call(s, WRITE, index, wrong, byte);
         try_call(s, PLAN, index, wrong, byte);
+        try_call(s, JOURNALLED, index, wrong, byte);
     }
 }
 
@@ -135,10 +136,11 @@ static void try_sets(struct store *s, const struct store *wiped) {
     }
 }
 
-// Every byte of the key and of T altered: no read, write, check or plan is accepted.
+// Every byte of the key and of T altered: no read, write, check or plan is accepted. H says which
+// nonces come next, and not which the card has.
 static void try_anchor(struct store *s) {
-    static const enum call calls[] = {READ, WRITE, CHECK, PLAN};
-    for (size_t byte = 0; byte < PAT_ANCHOR_BYTES; byte++) {
+    static const enum call calls[] = {READ, WRITE, CHECK, PLAN, JOURNALLED};
+    for (size_t byte = 0; byte < PAT_ANCHOR_RESERVED; byte++) {
         if (byte >= PAT_ANCHOR_DEPTH && byte < PAT_ANCHOR_ROOT)
             continue;
         s->anchor[byte] ^= 0x10;

@@ -98,6 +98,23 @@ static void test_split_lengths(void) {
                "no messages at a depth of %llu", (unsigned long long)no_depths[k]);
 }
 
+// A journal has T, a range list, the ranges' bytes and a tag.
+static void test_journal_lengths(void) {
+    static uint8_t least[PAT_JOURNAL_BYTES(2 - 1)], most[PAT_JOURNAL_BYTES(PAT_MAX_DEPTH)];
+    expect(sizeof least == 136 && sizeof most == 976 && PAT_MAX_JOURNAL_BYTES == 976,
+           "the shortest and the longest journal");
+    expect(PAT_JOURNAL_ROOT == 0 && PAT_JOURNAL_RANGES == 8, "places in the journal");
+    for (unsigned depth = 1; depth <= PAT_MAX_DEPTH; depth++)
+        expect(PAT_JOURNAL_BYTES(depth) ==
+                   8 + PAT_RANGE_BYTES(depth) + 40 * (size_t)depth + 56 + PAT_TAG_BYTES,
+               "the length of a journal of depth %u", depth);
+    expect(PAT_JOURNAL_BYTES(0) == 0 && PAT_JOURNAL_BYTES(-1) == 0 && PAT_JOURNAL_BYTES(17) == 0,
+           "no journal without a depth");
+    for (size_t k = 0; k < NO_DEPTHS; k++)
+        expect(PAT_JOURNAL_BYTES(no_depths[k]) == 0, "no journal has a depth of %llu",
+               (unsigned long long)no_depths[k]);
+}
+
 static void expect_no_message(uint64_t depth, uint64_t index, unsigned k) {
     struct pat_message m = pat_message(depth, index, k);
     expect(m.node == 0 && m.start == 0 && m.length == 0, "depth %llu, block %llu has no message %u",
@@ -135,10 +152,11 @@ static bool same_text(uint64_t one, uint64_t other) {
 }
 
 static void test_refusal_text(void) {
-    static const uint64_t strange[] = {10, 15, 255, 256, 257, 5 + 256 * 7, 9 + 256 * 7, UINT64_MAX};
+    static const uint64_t strange[] = {11,          15,          255,          256,       257,
+                                       5 + 256 * 7, 9 + 256 * 7, 10 + 256 * 7, UINT64_MAX};
     for (size_t k = 0; k < sizeof strange / sizeof *strange; k++)
         expect(same_text(strange[k], 100), "%llu is no answer", (unsigned long long)strange[k]);
-    for (unsigned k = PAT_ACCEPTED; k <= PAT_REFUSED_NOT_AWAITED; k++) {
+    for (unsigned k = PAT_ACCEPTED; k <= PAT_REFUSED_JOURNAL; k++) {
         expect(strlen(pat_refusal_text(k)) > 10, "a sentence for %u", k);
         expect(!same_text(k, 100), "%u is an answer", k);
         for (unsigned other = 0; other < k; other++)
@@ -148,11 +166,12 @@ static void test_refusal_text(void) {
            "the sentence for 7");
     expect(same_text(8 + 256 * 6, 8), "8 has its sentence with a node and without");
     const char *lengths = pat_refusal_text(PAT_REFUSED_LENGTH);
-    expect(strstr(lengths, "anchor has not 32") != NULL &&
+    expect(strstr(lengths, "anchor has not 40") != NULL &&
                strstr(lengths, "block not 64") != NULL && strstr(lengths, "plan not 24") != NULL &&
                strstr(lengths, "messages not 656") != NULL && strstr(lengths, "tag not 16") != NULL,
            "the sentence for 5 has every length");
     expect(PAT_REFUSED_NOT_AWAITED == 9, "the number of a tag that is not awaited");
+    expect(PAT_REFUSED_JOURNAL == 10, "the number of a journal");
 }
 
 // Every node of small cards, against the blocks that have it on their path.
@@ -202,14 +221,17 @@ static void test_anchor_bytes(void) {
     expect(memcmp(anchor.key, bytes, PAT_KEY_BYTES) == 0, "the key of the struct");
     expect(anchor.depth == pat_get_number(bytes + PAT_ANCHOR_DEPTH), "the depth of the struct");
     expect(anchor.root == pat_get_number(bytes + PAT_ANCHOR_ROOT), "the root nonce of the struct");
+    expect(anchor.reserved == pat_get_number(bytes + PAT_ANCHOR_RESERVED),
+           "the reserved nonce of the struct");
     pat_anchor_to_bytes(&anchor, back);
     expect(memcmp(bytes, back, PAT_ANCHOR_BYTES) == 0, "the bytes from the struct");
     expect(back[PAT_ANCHOR_BYTES] == behind, "no byte behind them");
 }
 
 void test_header(void) {
-    expect(PAT_ANCHOR_BYTES == 32 && PAT_KEY_BYTES == 16 && PAT_BLOCK_BYTES == 64, "lengths");
-    expect(PAT_ANCHOR_DEPTH == 16 && PAT_ANCHOR_ROOT == 24, "places in the anchor");
+    expect(PAT_ANCHOR_BYTES == 40 && PAT_KEY_BYTES == 16 && PAT_BLOCK_BYTES == 64, "lengths");
+    expect(PAT_ANCHOR_DEPTH == 16 && PAT_ANCHOR_ROOT == 24 && PAT_ANCHOR_RESERVED == 32,
+           "places in the anchor");
     expect(PAT_MAX_DEPTH == 16 && PAT_RANGES(3) == 6 && PAT_RANGE_BYTES(3) == 48,
            "depth and ranges");
     expect(PAT_RANGE_BYTES(PAT_MAX_DEPTH) == PAT_MAX_RANGE_BYTES, "the longest list of ranges");
@@ -223,6 +245,7 @@ void test_header(void) {
     test_card_bytes();
     test_aes_calls();
     test_split_lengths();
+    test_journal_lengths();
     test_no_messages();
     test_refusal_text();
     test_blocks_under();

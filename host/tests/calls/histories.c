@@ -5,11 +5,12 @@
 #include <stdlib.h>
 #include <string.h>
 
-// A store with the array that it should agree with. moves: how many writes and wipes there were.
+// A store with the array that it should agree with. taken: how many writes, wipes and lost attempts
+// there were.
 struct history {
     struct store store;
     uint8_t (*array)[PAT_BLOCK_BYTES];
-    uint64_t moves;
+    uint64_t taken;
     uint64_t state;
 };
 
@@ -30,11 +31,11 @@ static void end(struct history *h) {
     free(h->array);
 }
 
-// The path's nodes have the nonces T + n - y, and everything that is not theirs or a tag beside the
+// The path's nodes have the nonces H + n - y, and everything that is not theirs or a tag beside the
 // path is as it was.
 static void expect_written(const struct history *h, const struct outcome *o, uint64_t index) {
     unsigned n = h->store.depth;
-    uint64_t leaf = ((uint64_t)1 << n) + index, root = h->moves * n;
+    uint64_t leaf = ((uint64_t)1 << n) + index, reserved = h->taken * n;
     uint8_t *merged = malloc(o->card.length);
     if (merged == NULL)
         exit(2);
@@ -42,7 +43,7 @@ static void expect_written(const struct history *h, const struct outcome *o, uin
     for (unsigned above = 0; above < n; above++) {
         uint64_t node = leaf >> above;
         size_t start = start_of(n, node), beside = start_of(n, node ^ 1) + label_of(n, node);
-        expect(above == 0 || pat_get_number(o->card.bytes + start) == root + above,
+        expect(above == 0 || pat_get_number(o->card.bytes + start) == reserved + above,
                "a new nonce on the path");
         memcpy(merged + start, o->card.bytes + start, label_of(n, node) + 16);
         memcpy(merged + beside, o->card.bytes + beside, 16);
@@ -63,14 +64,21 @@ static void expect_written(const struct history *h, const struct outcome *o, uin
 // The history goes on with what an accepted write or wipe left.
 static void move_on(struct history *h, struct outcome *o) {
     struct store *s = &h->store;
-    h->moves++;
+    h->taken++;
     memcpy(s->anchor, o->anchor.bytes, PAT_ANCHOR_BYTES);
     memcpy(s->card, o->card.bytes, s->card_len);
     expect(memcmp(o->anchor.before, o->anchor.bytes, PAT_ANCHOR_ROOT) == 0,
            "key and depth are kept");
-    expect(pat_get_number(s->anchor + PAT_ANCHOR_ROOT) == h->moves * s->depth,
-           "T is n times the writes and wipes");
+    expect(nonce_of(s, PAT_ANCHOR_ROOT) == h->taken * s->depth &&
+               nonce_of(s, PAT_ANCHOR_RESERVED) == h->taken * s->depth,
+           "T and H are n times the writes, wipes and lost attempts");
     settle(o);
+}
+
+// Attempts of which nothing is left but the raised H.
+static void lose_some(struct history *h) {
+    for (uint64_t count = any(h, 3); count > 0; count--, h->taken++)
+        lose_attempt(&h->store);
 }
 
 // A write with some room to spare behind its ranges.
@@ -98,7 +106,7 @@ static void expect_empty(const struct history *h, const struct outcome *o) {
     for (uint64_t node = 2; node >> (n + 1) == 0; node++) {
         const uint8_t *label = o->card.bytes + start_of(n, node);
         if (node >> n == 0)
-            expect(pat_get_number(label) == (h->moves + 1) * n, "a new nonce on the card");
+            expect(pat_get_number(label) == (h->taken + 1) * n, "a new nonce on the card");
         else
             expect(memcmp(label, zeros, sizeof zeros) == 0, "an empty block");
     }
@@ -194,7 +202,7 @@ static void old_among_new(struct history *h) {
     memcpy(block, "the new", 7);
     must_write(s, index, block);
     memcpy(h->array[index], block, sizeof block);
-    h->moves += 2;
+    h->taken += 2;
     memcpy(mixed, s->card, s->card_len);
     expect_old_refused(s, old, mixed, index);
     expect_card_refused(s, old);
@@ -228,6 +236,8 @@ void test_histories(void) {
         for (unsigned turn = 0; turn < 60; turn++) {
             write_any(&h);
             read_any(&h);
+            if (turn % 5 == 2)
+                lose_some(&h);
             read_any(&h);
             if (turn % 12 == 0) {
                 check_whole(&h);

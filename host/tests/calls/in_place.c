@@ -25,19 +25,29 @@ struct given {
     size_t flipped;
 };
 
+// T or H is no multiple of the depth, or H is below T.
+static void spoil_nonces(struct pat_anchor *anchor) {
+    switch (draw() % 3) {
+    case 0: anchor->root += 1; break;
+    case 1: anchor->reserved += anchor->depth == 1 ? -anchor->reserved - 1 : 1; break;
+    default: anchor->root = anchor->reserved + anchor->depth; break;
+    }
+}
+
 static struct given draw_given(const struct pat_anchor *anchor, size_t card_len) {
     struct given given = {*anchor, card_len, PAT_BLOCK_BYTES, RANGES_LEN, 0, card_len};
     given.index = draw() % ((uint64_t)1 << anchor->depth);
     switch (draw() % 16) {
     case 0: given.anchor.depth = draw() % 2 ? 0 : 17 + draw() % 100; break;
-    case 1: given.anchor.root += 1; break;
+    case 1: spoil_nonces(&given.anchor); break;
     case 2: given.card_len -= 1 + draw() % 8; break;
     case 3: given.index += (uint64_t)1 << (anchor->depth + draw() % 40); break;
     case 4: given.block_len -= 1 + draw() % 8; break;
     case 5: given.ranges_len = PAT_RANGE_BYTES(anchor->depth) - 1; break;
-    case 6: given.anchor.root = UINT64_MAX - UINT64_MAX % anchor->depth; break;
+    case 6: given.anchor.reserved = UINT64_MAX - UINT64_MAX % anchor->depth; break;
     case 7:
     case 8: given.flipped = draw() % card_len; break;
+    case 9: given.anchor.reserved += anchor->depth; break; // a lost attempt
     default: break;
     }
     return given;
@@ -112,7 +122,7 @@ static void history(unsigned depth, unsigned steps, unsigned seen[PAT_REFUSED_TA
 
 void test_in_place(void) {
     unsigned seen[PAT_REFUSED_TAG + 1] = {0};
-    expect(sizeof(struct pat_anchor) == 32, "the struct has 32 bytes");
+    expect(sizeof(struct pat_anchor) == 40, "the struct has 40 bytes");
     for (unsigned round = 0; round < 20; round++)
         for (unsigned depth = 1; depth <= 7; depth++)
             history(depth, 40, seen);

@@ -6,17 +6,18 @@
 #include <stdio.h>
 #include <string.h>
 
-enum kind { START = PUT + 1 };
+enum kind { START = RECOVER + 1, LOSE };
 
-// A call and what is left after it. argument: the new block, or the block that is read. index: of a
-// start, whether it is on last_card; of a wipe, what the card's other bytes are made from, or 0.
+// A call, or a lost attempt, and what is left after it. argument: the new block, or the block that
+// is read. index: of a start, whether it is on last_card; of a wipe, what the card's other bytes
+// are made from, or 0.
 struct row {
     const char *history;
     unsigned depth;
     unsigned call;
     uint64_t index;
     const char *argument;
-    uint64_t root;
+    uint64_t root, reserved;
     uint64_t card_digest;
     const char *ranges;
 };
@@ -31,7 +32,7 @@ struct aes_calls {
 
 static struct store start(const struct row *row) {
     struct store s = make_store(row->depth);
-    pat_put_number(s.anchor + PAT_ANCHOR_ROOT, row->root);
+    set_nonces(&s, row->root, row->reserved);
     if (row->index != 0)
         unhex(s.card, last_card);
     return s;
@@ -54,7 +55,8 @@ static void expect_result(const struct row *row, const struct outcome *o, const 
 static void expect_left(const struct row *row, const struct store *s, const char *name) {
     expect(memcmp(s->anchor, test_key, PAT_KEY_BYTES) == 0, "%s: the key stays", name);
     expect(pat_get_number(s->anchor + PAT_ANCHOR_DEPTH) == row->depth, "%s: the depth stays", name);
-    expect(pat_get_number(s->anchor + PAT_ANCHOR_ROOT) == row->root, "%s: the root nonce", name);
+    expect(nonce_of(s, PAT_ANCHOR_ROOT) == row->root, "%s: the root nonce", name);
+    expect(nonce_of(s, PAT_ANCHOR_RESERVED) == row->reserved, "%s: the reserved nonce", name);
     expect(digest(s->card, s->card_len) == row->card_digest, "%s: the card", name);
 }
 
@@ -107,6 +109,8 @@ void test_known(void) {
         if (rows[k].call == START) {
             drop_store(&s);
             s = start(&rows[k]);
+        } else if (rows[k].call == LOSE) {
+            lose_attempt(&s);
         } else {
             follow(&rows[k], &s, name);
         }
@@ -114,5 +118,7 @@ void test_known(void) {
     }
     expect_spent(&s, WRITE);
     expect_spent(&s, WIPE);
+    expect_spent(&s, PLAN);
+    expect_spent(&s, JOURNALLED);
     drop_store(&s);
 }

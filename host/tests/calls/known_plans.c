@@ -12,8 +12,9 @@ struct known_plan {
     const char *history;
     unsigned depth;
     uint64_t wiped;
+    unsigned left; // how many plans were left unfinished just before
     uint64_t index;
-    uint64_t root;             // T after the last put
+    uint64_t root;             // T and H after the last put
     uint64_t planned, written; // digests of the card
     size_t plan_calls, engine_calls;
     const char *block, *ranges, *messages;
@@ -38,7 +39,7 @@ struct known_messages {
 static struct store start(const struct known_plan *row) {
     struct store s = make_store(row->depth);
     if (row->wiped != 0) {
-        pat_put_number(s.anchor + PAT_ANCHOR_ROOT, row->wiped);
+        set_nonces(&s, row->wiped, row->wiped);
         must_wipe(&s);
     }
     return s;
@@ -61,6 +62,15 @@ static void expect_filled(const struct known_plan *row, const struct outcome *o,
            "%s: the plan", name);
 }
 
+// A plan that is left unfinished: the raised anchor stays, and the card of before.
+static void leave_plan(struct store *s, unsigned seed) {
+    uint8_t block[PAT_BLOCK_BYTES];
+    fill(block, sizeof block, seed);
+    struct split split = must_plan(s, seed % 2, block);
+    memcpy(s->anchor, split.store.anchor, PAT_ANCHOR_BYTES);
+    drop_split(&split);
+}
+
 static void follow_plan(const struct known_plan *row, struct split *split, const char *name) {
     uint8_t block[PAT_BLOCK_BYTES];
     unhex(block, row->block);
@@ -70,7 +80,9 @@ static void follow_plan(const struct known_plan *row, struct split *split, const
     expect(o.answer == 0, "%s: accepted, and not answered %llu", name,
            (unsigned long long)o.answer);
     expect_filled(row, &o, name);
-    expect(unchanged(&o.anchor), "%s: the anchor stays", name);
+    pat_put_number(split->store.anchor + PAT_ANCHOR_RESERVED, row->root);
+    expect(memcmp(o.anchor.bytes, split->store.anchor, PAT_ANCHOR_BYTES) == 0,
+           "%s: H is raised, and nothing else in the anchor", name);
     expect(digest(o.card.bytes, o.card.length) == row->planned, "%s: the card as planned", name);
     memcpy(split->store.card, o.card.bytes, o.card.length);
     memcpy(split->plan, o.plan.bytes, PAT_PLAN_BYTES);
@@ -86,6 +98,8 @@ static void follow_puts(const struct known_put *row, struct split *split, const 
                name, k);
         expect(pat_get_number(split->store.anchor + PAT_ANCHOR_ROOT) == row[k].root,
                "%s, put %zu: T", name, k);
+        expect(nonce_of(&split->store, PAT_ANCHOR_RESERVED) == plan_number(split, PAT_PLAN_ROOT),
+               "%s, put %zu: H stays", name, k);
     }
 }
 
@@ -133,6 +147,8 @@ void test_known_plans(void) {
             drop_split(&split);
             split.store = start(row);
         }
+        for (unsigned left = 0; left < row->left; left++)
+            leave_plan(&split.store, left);
         follow_plan(row, &split, name);
         follow_puts(puts, &split, name);
         expect(digest(split.store.card, split.store.card_len) == row->written,

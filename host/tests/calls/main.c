@@ -18,8 +18,11 @@ static const struct {
     {"the write in place against the write", test_in_place},
     {"known answers of split writes", test_known_plans},
     {"split writes against writes", test_plans},
-    {"orders of tags, wrong and late tags, plans given up", test_orders},
+    {"orders of tags, wrong and late tags, plans left unfinished", test_orders},
     {"puts under plans of any bytes", test_puts},
+    {"known answers of journalled writes, and journals of no write", test_known_journals},
+    {"journalled writes against writes, and journals that are passed over", test_journals},
+    {"cuts at every byte of the four steps, and recoveries", test_cuts},
 };
 
 int main(void) {

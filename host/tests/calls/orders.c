@@ -1,5 +1,5 @@
 // Every order in which the tags of a small card can come; tags that are wrong or late, and what
-// finds them; and plans that are given up.
+// finds them; and plans that are left unfinished.
 #include "split.h"
 #include "tests.h"
 
@@ -103,7 +103,7 @@ static void try_wrong(const struct store *s, uint64_t index, uint64_t wrong) {
 static void try_spent(unsigned depth) {
     struct store s = make_store(depth);
     uint64_t last = UINT64_MAX - UINT64_MAX % depth;
-    pat_put_number(s.anchor + PAT_ANCHOR_ROOT, last - 2 * (uint64_t)depth);
+    set_nonces(&s, last - 2 * (uint64_t)depth, last - 2 * (uint64_t)depth);
     must_wipe(&s);
     struct split split = split_wrong(&s, 0, 3);
     expect(pat_get_number(split.store.anchor + PAT_ANCHOR_ROOT) == last, "the last T");
@@ -114,20 +114,28 @@ static void try_spent(unsigned depth) {
     drop_store(&s);
 }
 
-// A plan with only some of its tags: the block is refused under the anchor, which has not moved. On
-// the card of before, another plan and its puts end as a write.
+// The same store once a plan was left unfinished: its H is raised.
+static struct store raised_copy(const struct store *s) {
+    struct store copy = copy_store(s);
+    lose_attempt(&copy);
+    return copy;
+}
+
+// A plan with only some of its tags: the block is refused under the anchor, of which H alone has
+// moved. On the card of before and with that anchor, another plan and its puts end as a write.
 static void give_up(const struct store *s, uint64_t index, size_t some) {
     uint64_t nodes[MOST_MESSAGES];
-    struct store end = written(s, index), other_end = written(s, index ^ 1);
+    struct store raised = raised_copy(s);
+    struct store end = written(&raised, index), other_end = written(s, index ^ 1);
     struct split given_up = must_plan(s, index ^ 1, round_bytes), split;
     size_t count = list_nodes(s->depth, index ^ 1, nodes);
     for (size_t k = 0; k < some; k++)
         must_put(&given_up, nodes[k], tag_of(&other_end, nodes[k]));
-    expect(memcmp(given_up.store.anchor, s->anchor, PAT_ANCHOR_BYTES) == 0,
-           "the anchor of before after %zu of %zu puts", some, count);
+    expect(memcmp(given_up.store.anchor, raised.anchor, PAT_ANCHOR_BYTES) == 0,
+           "the anchor with H raised after %zu of %zu puts", some, count);
     expect(pat_refusal(answer_of(READ, &given_up.store, index ^ 1)) == PAT_REFUSED_TAG,
            "the block of an unfinished plan is refused after %zu of %zu puts", some, count);
-    split = must_plan(s, index, round_bytes);
+    split = must_plan(&raised, index, round_bytes);
     list_nodes(s->depth, index, nodes);
     for (size_t k = count; k-- > 0;)
         must_put(&split, nodes[k], tag_of(&end, nodes[k]));
@@ -136,6 +144,7 @@ static void give_up(const struct store *s, uint64_t index, size_t some) {
     drop_split(&split);
     drop_store(&end);
     drop_store(&other_end);
+    drop_store(&raised);
 }
 
 // A split write with right tags on a card that is damaged elsewhere: a read and another plan of the
@@ -158,14 +167,14 @@ static void try_damaged(const struct store *s, uint64_t index) {
     drop_store(&damaged);
 }
 
-// The tag of a plan that was given up comes late and is put under the next plan of the block: it is
+// The tag of a plan that was left comes late and is put under the next plan of the block: it is
 // taken, its own is then refused, and a read of the block finds it.
 static void come_late(const struct store *s, uint64_t index) {
     static const uint8_t other[PAT_BLOCK_BYTES] = "another round";
     uint64_t nodes[MOST_MESSAGES], leaf = ((uint64_t)1 << s->depth) + index;
-    struct store given_up = written(s, index), end = copy_store(s);
+    struct store given_up = written(s, index), raised = raised_copy(s), end = copy_store(&raised);
     must_write(&end, index, other);
-    struct split split = must_plan(s, index, other);
+    struct split split = must_plan(&raised, index, other);
     size_t count = list_nodes(s->depth, index, nodes);
     must_put(&split, leaf, tag_of(&given_up, leaf));
     must_refuse(&split, leaf);
@@ -175,6 +184,7 @@ static void come_late(const struct store *s, uint64_t index) {
     expect(answer_of(READ, &split.store, index) == 8 + 256 * leaf, "a read finds the late tag");
     drop_split(&split);
     drop_store(&given_up);
+    drop_store(&raised);
     drop_store(&end);
 }
 

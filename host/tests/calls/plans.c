@@ -65,8 +65,10 @@ static void expect_planned(const struct outcome *plan, const struct outcome *wri
     uint64_t nodes[MOST_MESSAGES], root = pat_get_number(write->anchor.bytes + PAT_ANCHOR_ROOT);
     list_nodes(depth, index, nodes);
     expect(plan->answer == 0 && write->answer == 0, "depth %u: plan and write are accepted", depth);
-    expect(unchanged(&plan->anchor) && unchanged(&plan->buffer),
-           "depth %u: a plan leaves anchor and block", depth);
+    expect(memcmp(plan->anchor.bytes, plan->anchor.before, PAT_ANCHOR_RESERVED) == 0 &&
+               pat_get_number(plan->anchor.bytes + PAT_ANCHOR_RESERVED) == root,
+           "depth %u: a plan raises H to the new T, and leaves the rest of the anchor", depth);
+    expect(unchanged(&plan->buffer), "depth %u: a plan leaves the block", depth);
     expect(memcmp(plan->ranges.bytes, write->ranges.bytes, plan->ranges.length) == 0,
            "depth %u: a plan lists the ranges of a write, and leaves the rest of the buffer",
            depth);
@@ -117,6 +119,7 @@ static void both(struct store *s, uint64_t index) {
     struct outcome plan = perform(&a);
     expect_planned(&plan, &write, s->depth, index);
     struct split split = {.store = copy_store(s)};
+    memcpy(split.store.anchor, plan.anchor.bytes, PAT_ANCHOR_BYTES);
     memcpy(split.store.card, plan.card.bytes, s->card_len);
     memcpy(split.plan, plan.plan.bytes, PAT_PLAN_BYTES);
     memcpy(s->anchor, write.anchor.bytes, PAT_ANCHOR_BYTES);
@@ -137,6 +140,8 @@ void test_plans(void) {
         for (unsigned k = 0; k < writes; k++) {
             if (k == writes / 2)
                 must_wipe(&s);
+            if (draw(4) == 0)
+                lose_attempt(&s);
             both(&s, k == 0 ? blocks - 1 : k == 1 ? 0 : draw(blocks));
         }
         drop_store(&s);

@@ -45,7 +45,7 @@ static size_t stride(unsigned depth) {
 static struct store any_store(unsigned depth) {
     struct store s = make_store(depth);
     fill(s.card, s.card_len, depth + 100);
-    pat_put_number(s.anchor + PAT_ANCHOR_ROOT, 7 * (uint64_t)depth);
+    set_nonces(&s, 7 * (uint64_t)depth, 9 * (uint64_t)depth);
     return s;
 }
 
@@ -102,10 +102,10 @@ static void try_absent(unsigned depth) {
     drop_store(&s);
 }
 
-// The put of a last tag sets T to what the plan says, whichever place it is, whatever the bits
-// above and whatever T was, the last one that is a multiple of the depth too. The put of a last but
-// one leaves it, and with all places filled no tag is awaited. A tag that the card has already is a
-// tag like any other.
+// The put of a last tag sets T to what the plan says and leaves H, whichever place it is, whatever
+// the bits above and whatever T was, the last one that is a multiple of the depth too. The put of a
+// last but one leaves it, and with all places filled no tag is awaited. A tag that the card has
+// already is a tag like any other.
 static void try_last(unsigned depth) {
     static const uint64_t roots[] = {0, 1, 17, (uint64_t)1 << 63, UINT64_MAX - 1, UINT64_MAX};
     struct store s = any_store(depth);
@@ -116,7 +116,7 @@ static void try_last(unsigned depth) {
             uint64_t above = j % 2 == 0 ? 0 : ~all, bit = (uint64_t)1 << k;
             uint8_t tag[PAT_TAG_BYTES] = {(uint8_t)j, (uint8_t)k}, own[PAT_TAG_BYTES];
             uint64_t spent = UINT64_MAX - UINT64_MAX % depth;
-            pat_put_number(s.anchor + PAT_ANCHOR_ROOT, j < 3 ? spent : 3 * (uint64_t)depth);
+            set_nonces(&s, j < 3 ? spent : 3 * (uint64_t)depth, spent);
             struct split last = make_split(&s, index, roots[j], (all - bit) | above);
             struct split same = make_split(&s, index, roots[j], (all - bit) | above);
             struct split full = make_split(&s, index, roots[j], all | above);

@@ -42,6 +42,7 @@ static void try_set(const struct subject *subject, const struct store *s, unsign
     struct draft d = {.store = s};
     d.arguments = arguments_for(subject->call, s, variant % ((size_t)1 << s->depth), block);
     memcpy(d.plan, d.arguments.plan, sizeof d.plan);
+    memcpy(d.journal, d.arguments.journal, sizeof d.journal);
     if (subject->call == PUT)
         draft_put(&d, variant);
     d.card = calloc(2, s->card_len + 64);
@@ -54,6 +55,7 @@ static void try_set(const struct subject *subject, const struct store *s, unsign
     d.arguments.card = d.card;
     d.arguments.buffer = d.buffer;
     d.arguments.plan = d.plan;
+    d.arguments.journal = d.journal;
     uint64_t due = spoil_with(&d, subject, set, variant);
     struct outcome o = perform(&d.arguments);
     expect(o.answer == due,
@@ -66,14 +68,6 @@ static void try_set(const struct subject *subject, const struct store *s, unsign
     free(d.card);
 }
 
-// Whether a set asks for a T that is no multiple of 1.
-static bool impossible(const struct subject *subject, unsigned set, unsigned n) {
-    for (size_t k = 0; k < subject->count; k++)
-        if ((set >> k & 1) == 1 && subject->faults[k].number == 2)
-            return n == 1;
-    return false;
-}
-
 void test_refusals(void) {
     static const unsigned depths[] = {1, 2, 3, 6};
     for (size_t k = 0; k < 4; k++) {
@@ -82,8 +76,7 @@ void test_refusals(void) {
              subject++)
             for (unsigned set = 0; set < 1u << subject->count; set++)
                 for (size_t variant = 0; variant < (set & (set - 1) ? 3u : 16u); variant++)
-                    if (!impossible(subject, set, depths[k]))
-                        try_set(subject, &s, set, variant + (set & (set - 1) ? set : 0));
+                    try_set(subject, &s, set, variant + (set & (set - 1) ? set : 0));
         drop_store(&s);
     }
     struct store large = used_store(PAT_MAX_DEPTH);

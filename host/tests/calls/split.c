@@ -28,6 +28,9 @@ struct split must_plan(const struct store *s, uint64_t index, const uint8_t *blo
     expect(o.answer == 0,
            "depth %u: a plan on an untouched card is accepted, and not answered %llu", s->depth,
            (unsigned long long)o.answer);
+    lose_attempt(&split.store);
+    expect(memcmp(o.anchor.bytes, split.store.anchor, PAT_ANCHOR_BYTES) == 0,
+           "depth %u: a plan raises H by the depth, and nothing else in the anchor", s->depth);
     memcpy(split.store.card, o.card.bytes, s->card_len);
     memcpy(split.plan, o.plan.bytes, PAT_PLAN_BYTES);
     settle(&o);

@@ -18,7 +18,7 @@ size_t list_nodes(unsigned depth, uint64_t index, uint64_t nodes[MOST_MESSAGES])
 // A copy of a store with a plan of these three numbers, which no call has made.
 struct split make_split(const struct store *store, uint64_t index, uint64_t root, uint64_t filled);
 
-// A copy of a store after an accepted plan.
+// A copy of a store after an accepted plan, its H raised.
 struct split must_plan(const struct store *store, uint64_t index, const uint8_t *block);
 
 void drop_split(struct split *split);

@@ -45,14 +45,14 @@ static void nonce_rows(void) {
     drop_store(&g);
 }
 
-// The refusal of a write or a wipe of a card of depth 2 with this root nonce, card length and block
-// number.
+// The refusal of a write, a wipe or a plan of a card of depth 2 with this root nonce, card length
+// and block number.
 static unsigned limit(enum call call, uint64_t root, size_t card_len, uint64_t index) {
     static const uint8_t block[PAT_BLOCK_BYTES];
     static uint8_t longer[512];
     struct store s = make_store(2);
     memcpy(longer, s.card, s.card_len);
-    pat_put_number(s.anchor + PAT_ANCHOR_ROOT, root);
+    set_nonces(&s, root, root);
     struct arguments a = arguments_for(call, &s, index, block);
     a.card = longer;
     a.card_len = card_len;
@@ -64,7 +64,7 @@ static unsigned limit(enum call call, uint64_t root, size_t card_len, uint64_t i
     return refusal;
 }
 
-// What writes and wipes have in common.
+// What writes, wipes and plans have in common.
 static void limit_rows(enum call call) {
     expect(limit(call, UINT64_MAX - 1, 368, 0) == 7, "row h: 2^64 - 2 is spent");
     expect(limit(call, 3, 368, 0) == 2, "row i");
@@ -85,5 +85,7 @@ void test_table(void) {
     expect(limit(WIPE, UINT64_MAX - 3, 368, 0) == 0, "row h: a wipe needs no such card");
     limit_rows(WRITE);
     limit_rows(WIPE);
+    limit_rows(JOURNALLED);
+    limit_rows(PLAN);
     expect(limit(WRITE, 0, 368, 3) == 0 && limit(WRITE, 0, 368, 4) == 4, "row k");
 }

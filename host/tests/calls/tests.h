@@ -13,5 +13,8 @@ void test_known_plans(void);
 void test_plans(void);
 void test_orders(void);
 void test_puts(void);
+void test_known_journals(void);
+void test_journals(void);
+void test_cuts(void);
 
 #endif

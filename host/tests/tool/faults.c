@@ -3,9 +3,10 @@
 //
 // FAULT_LOG names the file for the list. FAULT is "CALL:COUNT:ACTION": at that call of the name,
 // counted from 1, ACTION "cut" ends the process before it does anything, "signal" with a number
-// behind it sends that signal and goes on, and a number is the errno that the call fails with. A
-// pwrite can also be "torn", which cuts the process off behind that many of its bytes, or "short",
-// which writes no more and goes on.
+// behind it sends that signal and goes on, and a number is the errno that the call fails with. The
+// CALL "any" counts all that the list has but the wiping of memory. A pwrite or a write can also be
+// "torn", which cuts the process off behind that many of its bytes, or "short", which writes no
+// more and goes on.
 #include <errno.h>
 #include <fcntl.h>
 #include <signal.h>
@@ -34,30 +35,38 @@ static void note(const char *format, ...) {
 static size_t most = SIZE_MAX;
 static int torn;
 
+// Whether this call, the count-th of the name that FAULT has, is the one that FAULT means, and what
+// is to be done then, behind its colon.
+static const char *action_of(const char *fault, int count) {
+    char *action;
+    return count == strtol(strchr(fault, ':') + 1, &action, 10) ? action + 1 : NULL;
+}
+
+// Whether FAULT is of calls of that name. The list has no locks, owners and random bytes.
+static int is_of(const char *fault, const char *name) {
+    size_t length = strlen(name);
+    if (strncmp(fault, "any:", 4) == 0)
+        return strcmp(name, "flock") != 0 && strcmp(name, "fchown") != 0 &&
+               strcmp(name, "getrandom") != 0;
+    return strncmp(fault, name, length) == 0 && fault[length] == ':';
+}
+
 // Whether this call is to fail; errno is then set. A cut does not return.
 static int fails(const char *name) {
-    static int counts[8];
-    static const char *const names[8] = {"rename",    "fsync",  "pwrite", "write",
-                                         "getrandom", "fchown", "flock"};
-    const char *fault = getenv("FAULT");
-    size_t length = strlen(name), k = 0;
-    if (fault == NULL || strncmp(fault, name, length) != 0 || fault[length] != ':')
+    static int count;
+    const char *fault = getenv("FAULT"), *action;
+    if (fault == NULL || !is_of(fault, name) || (action = action_of(fault, ++count)) == NULL)
         return 0;
-    while (strcmp(names[k], name) != 0)
-        k++;
-    char *action;
-    if (++counts[k] != strtol(fault + length + 1, &action, 10))
-        return 0;
-    if (strcmp(action, ":cut") == 0)
+    if (strcmp(action, "cut") == 0)
         _exit(99);
-    if (strncmp(action, ":signal", 7) == 0)
-        return kill(getpid(), atoi(action + 7));
-    torn = strncmp(action, ":torn", 5) == 0;
-    if (torn || strncmp(action, ":short", 6) == 0) {
-        most = (size_t)atoi(action + (torn ? 5 : 6));
+    if (strncmp(action, "signal", 6) == 0)
+        return kill(getpid(), atoi(action + 6));
+    torn = strncmp(action, "torn", 4) == 0;
+    if (torn || strncmp(action, "short", 5) == 0) {
+        most = (size_t)atoi(action + (torn ? 4 : 5));
         return 0;
     }
-    errno = atoi(action + 1);
+    errno = atoi(action);
     return 1;
 }
 
@@ -108,11 +117,26 @@ ssize_t pwrite(int file, const void *bytes, size_t length, off_t place) {
 }
 
 ssize_t write(int file, const void *bytes, size_t length) {
+    if (file <= 2)
+        return syscall(SYS_write, file, bytes, length);
     if (fails("write"))
         return -1;
-    if (file > 2)
-        note("write %s %zu\n", name_of(file), length);
-    return syscall(SYS_write, file, bytes, length);
+    note("write %s %zu\n", name_of(file), length);
+    ssize_t count = syscall(SYS_write, file, bytes, length < most ? length : most);
+    if (torn)
+        _exit(99);
+    most = SIZE_MAX;
+    return count;
+}
+
+// Of a file that is there alone: what lies beside another is removed in vain as a rule.
+int unlink(const char *path) {
+    if (access(path, F_OK) != 0)
+        return (int)syscall(SYS_unlink, path);
+    if (fails("unlink"))
+        return -1;
+    note("unlink %s\n", last_part(path));
+    return (int)syscall(SYS_unlink, path);
 }
 
 ssize_t getrandom(void *bytes, size_t length, unsigned flags) {

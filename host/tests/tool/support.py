@@ -17,7 +17,8 @@ from pathlib import Path
 HERE = Path(__file__).resolve().parent
 sys.path.insert(0, str(HERE.parent))
 
-from model import Card, aes_calls, entry  # noqa: E402, F401
+from cipher import Cmac  # noqa: E402, F401
+from model import Card, aes_calls, entry, packed  # noqa: E402, F401
 
 TOOL = Path(os.environ["ROUNDCARD"]).resolve()
 FAULTS = os.environ.get("FAULTS") and Path(os.environ["FAULTS"]).resolve()
@@ -57,6 +58,7 @@ class ToolCase(unittest.TestCase):
         self.addCleanup(shutil.rmtree, self.room)
         self.addCleanup(self.room.chmod, 0o700)
         self.anchor, self.card = self.room / "box.anchor", self.room / "box.card"
+        self.journal = self.room / "box.card.roundcard-journal"
 
     def tool(self, *words, **options):
         """Runs the tool in the test's folder."""
@@ -96,7 +98,7 @@ class ToolCase(unittest.TestCase):
 
     def refused(self, number, *words, node=None, **options):
         """Fails with a refusal, and says who can mend it."""
-        who = {2: "the anchor", 7: "the anchor", 3: "whoever has the card", 8: "whoever has the card"}
+        who = {2: "the anchor", 7: "the anchor", 3: "whoever has the card", 8: "whoever has the card", 10: "whoever keeps the journal"}
         who = who.get(number, "the calling software")
         report = self.fails(number, *words, **options)
         self.assertEqual((report["refusal"], report["who"], report.get("node")), (number, who, node), words)
@@ -134,10 +136,11 @@ class ToolCase(unittest.TestCase):
         return found
 
     def put(self, card):
-        """Puts a card of the model and its anchor into the two files, as format does."""
+        """Puts a card of the model and its anchor into the two files, as format does, with no journal beside them."""
         self.card.write_bytes(card.bytes)
         self.anchor.write_bytes(card.anchor())
         self.anchor.chmod(0o600)
+        self.journal.unlink(missing_ok=True)
 
     def made(self, depth=3, writes=()):
         """A card of the model with some rounds, in the two files."""
@@ -201,12 +204,23 @@ class FaultCase(ToolCase):
         environment = dict(os.environ, LD_PRELOAD=str(FAULTS), FAULT_LOG=str(self.room / "log"), FAULT=fault)
         return self.tool(*words, env=environment, **options)
 
+    def steps(self, *words):
+        """A run's calls that change files, in which it succeeds."""
+        log = self.room / "log"
+        log.unlink(missing_ok=True)
+        self.assertEqual(self.run_with("", *words).returncode, 0)
+        steps = [line for line in log.read_text().splitlines() if not line.startswith("wipe")]
+        log.unlink()
+        return steps
+
     def both(self):
         return self.card.read_bytes(), self.anchor.read_bytes()
 
     def start_again(self):
         self.card.write_bytes(self.old[0])
         self.anchor.write_bytes(self.old[1])
+        for path in (self.journal, *self.room.glob("*.roundcard-new")):
+            path.unlink(missing_ok=True)
 
     def failing(self, fault, number, *words):
         done = self.run_with(f"{fault}:{number}", *words)

@@ -11,11 +11,12 @@ COMMANDS = {
     "format": ["--depth", "--key-file", "--force"],
     "read": ["--output", "--text", "--hex"],
     "write": ["--input", "--text"],
+    "recover": [],
     "wipe": ["--yes"],
     "check": ["--all", "--picture"],
     "show": [],
 }
-WORDS = {"format": 2, "read": 3, "write": 3, "wipe": 2, "check": 2, "show": 2}
+WORDS = {"format": 2, "read": 3, "write": 3, "recover": 2, "wipe": 2, "check": 2, "show": 2}
 
 
 class CommandLine(ToolCase):
@@ -26,7 +27,7 @@ class CommandLine(ToolCase):
                 line = re.search(rf"^  roundcard {command} .*$", output, re.MULTILINE).group()
                 for option in options:
                     self.assertIn(option, line)
-            for status in (1, 2, 3, 4, 5, 7, 8, 64, 65, 70, 74, 77):
+            for status in (1, 2, 3, 4, 5, 7, 8, 10, 64, 65, 70, 74, 77):
                 self.assertRegex(output, rf"(?m)^ +{status}  ")
             for who in ("the calling software", "the anchor", "whoever has the card"):
                 self.assertIn(who, output)
@@ -43,8 +44,13 @@ class CommandLine(ToolCase):
 
     def test_write_says_what_a_cut_leaves(self):
         output = " ".join(self.accepted("help", "write").decode().split())
-        self.assertIn("A cut before the new anchor file is in place changes nothing.", output)
-        self.assertIn("a check refuses it with 8", output)
+        for part in ("four steps, each synced before the next", "A cut at any moment loses nothing", "'roundcard recover'"):
+            self.assertIn(part, output)
+
+    def test_recover_says_what_it_cannot_do(self):
+        output = " ".join(self.accepted("help", "recover").decode().split())
+        for part in ("Every write and wipe recovers first", "After a wipe that was cut it has nothing to do: wipe the card again."):
+            self.assertIn(part, output)
 
     def test_wipe_says_what_is_lost_and_what_a_cut_leaves(self):
         output = " ".join(self.accepted("help", "wipe").decode().split())
@@ -112,6 +118,7 @@ class CommandLine(ToolCase):
             options = {"program": ODD, "env": dict(os.environ, ANSWER=str(answer))}
             self.fails(LIBRARY, "read", *last, "1", says=[f"unknown answer, {answer}"], **options)
             self.fails(LIBRARY, "write", *last, "1", "--text", "x", **options)
+            self.fails(LIBRARY, "recover", *last, **options)
             self.fails(LIBRARY, "wipe", "--yes", *last, **options)
             self.fails(LIBRARY, "check", *last, **options)
             self.fails(LIBRARY, "check", "--all", *last, **options)

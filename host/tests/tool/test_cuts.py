@@ -1,9 +1,7 @@
-"""Cuts and failures between the steps of a write and of a format: what each leaves."""
+"""Cuts and failures between the steps of a format and of an output, and signals: what each leaves."""
 
 import errno
-import json
 import signal
-import stat
 import unittest
 
 from support import CUT, FaultCase, block
@@ -18,97 +16,11 @@ class Cuts(FaultCase):
         self.new = bytes(self.model.bytes), self.model.anchor()
         self.words = "write", "--text", "the new round", self.anchor, self.card, "5"
 
-    def test_steps_of_a_write(self):
-        self.assertEqual(self.run_with("", *self.words).returncode, 0)
-        steps = (self.room / "log").read_text().splitlines()
-        ranges = [f"pwrite box.card {start} {length}" for start, length in self.model.ranges(5)]
-        beside = "box.anchor.roundcard-new"
-        anchor = [f"write {beside} 32", f"fsync {beside}", f"rename {beside} box.anchor", f"fsync {self.room.name}"]
-        self.assertEqual(steps, [*anchor, *ranges, "fsync box.card", "wipe 33"])
-        self.assertEqual(self.both(), self.new)
-
-    def test_cut_before_the_anchor_is_in_place(self):
-        for fault in ("write:1", "fsync:1", "rename:1"):
-            with self.subTest(fault=fault):
-                self.assertEqual(self.run_with(f"{fault}:cut", *self.words).returncode, CUT)
-                self.assertEqual(self.both(), self.old)
-                self.assertEqual(self.accepted("read", "--text", self.anchor, self.card, "5"), b"the old round\n")
-                beside = self.room / "box.anchor.roundcard-new"
-                self.assertEqual(stat.S_IMODE(beside.stat().st_mode), 0o600)
-                self.accepted(*self.words)
-                self.assertEqual(self.both(), self.new)
-                self.assertFalse(beside.exists())
-                self.start_again()
-
-    def test_cut_before_the_card_is_out(self):
-        ranges = self.model.ranges(5)
-        for done in range(len(ranges)):
-            with self.subTest(ranges_out=done):
-                self.assertEqual(self.run_with(f"pwrite:{done + 1}:cut", *self.words).returncode, CUT)
-                torn = bytearray(self.old[0])
-                for start, length in ranges[:done]:
-                    torn[start : start + length] = self.new[0][start : start + length]
-                self.assertEqual(self.both(), (bytes(torn), self.new[1]))
-                self.expect_seen(torn, done)
-                self.start_again()
-
-    def expect_seen(self, torn, done):
-        """What the calls say of a card on which so many ranges are out."""
-        whole, self.model.bytes = self.model.bytes, torn
-        self.refused(8, "check", self.anchor, self.card, node=self.model.first_wrong(range(2, 16)))
-        for index in range(8):
-            words = "read", self.anchor, self.card, str(index)
-            node = self.model.first_wrong(self.model.path(index)[1:])
-            if node is None:
-                self.assertGreater(done, 0, "with no range out every read is refused")
-                self.assertEqual(self.accepted(*words), bytes(whole[144 + 80 * index :][:64]))
-            else:
-                self.refused(8, *words, node=node)
-        self.assertEqual(self.report("show", self.anchor)["changes"], 3)
-        self.model.bytes = whole
-
-    def test_what_a_write_mends_after_a_cut(self):
-        for index, lost in ((5, 5), (4, 5), (2, 3), (7, 7)):
-            for done in range(6):
-                with self.subTest(index=index, ranges_out=done):
-                    words = "write", "--text", "x", self.anchor, self.card, str(index)
-                    self.assertEqual(self.run_with(f"pwrite:{done + 1}:cut", *words).returncode, CUT)
-                    report = json.loads(self.tool("check", "--all", "--json", self.anchor, self.card).stdout)
-                    mended = [run["first"] for run in report["runs"] if run["write_mends"]]
-                    self.assertEqual(mended, [lost] if done == 5 else [])
-                    for block_number in mended:
-                        self.accepted("write", "--text", "again", self.anchor, self.card, str(block_number))
-                        self.accepted("check", self.anchor, self.card)
-                    self.start_again()
-
-    def test_cut_after_the_card_is_out(self):
-        for fault, status in (("fsync:3:cut", CUT), ("fsync:4:cut", 0)):
-            self.assertEqual(self.run_with(fault, *self.words).returncode, status)
-            self.assertEqual(self.both(), self.new)
-            self.start_again()
-
-    def test_failures_before_the_anchor_is_in_place(self):
-        for fault in ("write:1", "fsync:1", "rename:1"):
-            for number in (errno.EIO, errno.ENOSPC):
-                message = self.failing(fault, number, *self.words)
-                self.assertIn("nothing is changed", message)
-                self.assertEqual(self.both(), self.old)
-                self.assertEqual({path.name for path in self.room.iterdir()} - {"log"}, {"box.anchor", "box.card"})
-        message = self.failing("flock:1", errno.ENOLCK, *self.words)
-        self.assertEqual(self.both(), self.old)
-
-    def test_failures_after_it(self):
-        for fault in ("fsync:2", "pwrite:1", "pwrite:4", "fsync:3"):
-            message = self.failing(fault, errno.EIO, *self.words)
-            self.assertIn("could not be written whole", message)
-            self.assertEqual(self.anchor.read_bytes(), self.new[1])
-            self.start_again()
-
     def test_every_signal_waits_for_the_card(self):
         silent = {signal.SIGCHLD, signal.SIGCONT, signal.SIGURG, signal.SIGWINCH, signal.SIGXFSZ, signal.SIGPIPE}
         harmless = silent | {signal.SIGTSTP, signal.SIGTTIN, signal.SIGTTOU}
         for number in sorted(signal.valid_signals() - {signal.SIGKILL, signal.SIGSTOP}):
-            for fault in ("rename:1", "pwrite:1"):
+            for fault in ("rename:1", "rename:3", "pwrite:1"):
                 with self.subTest(signal=number, fault=fault):
                     self.assertEqual(self.signalled(fault, int(number), *self.words), 0 if number in harmless else -number)
                     self.assertEqual(self.said, "" if number in silent else "roundcard write: block 5 is written, and a signal came meanwhile\n")
@@ -116,12 +28,12 @@ class Cuts(FaultCase):
                     self.start_again()
 
     def test_signals_at_every_step_wait_for_the_card(self):
-        steps = ["write:1", "fsync:1", "rename:1", "fsync:2", *(f"pwrite:{k}" for k in range(1, 7)), "fsync:3"]
+        steps = len(self.steps(*self.words))
         for number in (signal.SIGTERM, signal.SIGUSR1, signal.SIGALRM, signal.SIGXCPU):
-            for fault in steps:
-                self.assertEqual(self.signalled(fault, int(number), *self.words), -number)
-                self.assertEqual(self.both(), self.new)
+            for k in range(1, steps + 1):
                 self.start_again()
+                self.assertEqual(self.signalled(f"any:{k}", int(number), *self.words), -number)
+                self.assertEqual(self.both(), self.new)
 
     def test_signals_wait_for_a_format(self):
         for fault in ("write:1", "write:2", "fsync:3"):
@@ -159,11 +71,12 @@ class Cuts(FaultCase):
     def test_keys_are_wiped(self):
         (self.room / "key").write_bytes(bytes(16))
         last = self.anchor, self.card
-        commands = [self.words, ("read", *last, "5"), ("check", *last), ("show", *last)]
+        commands = [self.words, ("read", *last, "5"), ("check", *last), ("show", *last), ("recover", *last)]
         for words in [*commands, ("format", "--depth=2", "--key-file=key", "a", "c")]:
             self.run_with("", *words)
             wiped = (self.room / "log").read_text().splitlines()
-            self.assertIn("wipe 32" if words[0] == "format" else "wipe 33", wiped)
+            self.assertIn("wipe 40" if words[0] == "format" else "wipe 41", wiped)
+            self.assertEqual("wipe 40" in wiped, words[0] in ("format", "write"))
             self.assertEqual("wipe 17" in wiped, words[0] == "format")
             (self.room / "log").unlink()
 
@@ -199,7 +112,7 @@ class Cuts(FaultCase):
     def test_format_puts_the_card_out_first(self):
         self.run_with("", "format", "--depth", "1", "a", "c")
         steps = (self.room / "log").read_text().splitlines()
-        self.assertEqual(steps[:4], ["write c 160", "fsync c", "write a 32", "fsync a"])
+        self.assertEqual(steps[:4], ["write c 160", "fsync c", "write a 40", "fsync a"])
         (self.room / "log").unlink()
         self.assertEqual(self.run_with("write:1:cut", "format", "--depth", "1", "b", "d").returncode, CUT)
         self.refused(5, "check", "b", "d", says=["has 0 bytes"])

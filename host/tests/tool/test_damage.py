@@ -23,6 +23,7 @@ class Damage(ToolCase):
     def every(self):
         """All that need anchor and card."""
         yield from self.commands()
+        yield "recover", self.anchor, self.card
         yield "wipe", "--yes", self.anchor, self.card
         yield "show", self.anchor, self.card
 
@@ -75,11 +76,18 @@ class Damage(ToolCase):
 
     def test_anchor_of_another_length(self):
         right = self.anchor.read_bytes()
-        for data in (b"", right[:1], right[:31], right + b"\0", right + right, bytes(100000)):
+        for data in (b"", right[:1], right[:31], right[:39], right + b"\0", right + right, bytes(100000)):
             self.anchor.write_bytes(data)
-            says = ["the anchor file has more than 32" if len(data) > 32 else f"the anchor file has {len(data)} bytes, and not 32"]
+            says = ["the anchor file has more than 40" if len(data) > 40 else f"the anchor file has {len(data)} bytes, and not 40"]
             for words in self.every():
                 self.refused(5, *words, says=says)
+
+    def test_anchor_of_before_there_was_a_reserved_nonce(self):
+        self.anchor.write_bytes(self.anchor.read_bytes()[:32])
+        for words in self.every():
+            says = ["has 32 bytes, and not 40: roundcard made it before version 0.6.0", "no reserved nonce H"]
+            advice = self.refused(5, *words, says=says)["advice"]
+            self.assertEqual(advice, "read its rounds with the roundcard that made it, format another card with a new key, and write them there")
 
     def test_card_of_another_length(self):
         right = self.card.read_bytes()
@@ -106,16 +114,23 @@ class Damage(ToolCase):
         for words in self.every():
             self.refused(2, *words, says=["T is 9, no multiple of the depth 2"])
 
-    def test_root_nonce_in_the_anchor(self):
-        for root in (8, 10, 2**64 - 2):
-            self.alter(self.anchor, lambda data: data.__setitem__(slice(24, 32), root.to_bytes(8, "big")))
+    def set_nonces(self, root, reserved):
+        self.alter(self.anchor, lambda data: data.__setitem__(slice(24, 40), root.to_bytes(8, "big") + reserved.to_bytes(8, "big")))
+
+    def test_nonces_in_the_anchor(self):
+        for root, reserved, says in ((8, 9, "T is 8"), (10, 12, "T is 10"), (2**64 - 2, 0, f"T is {2**64 - 2}"), (9, 10, "H is 10, no multiple"),
+                                     (9, 8, "H is 8, no multiple"), (9, 6, "H is 6, below the root nonce T, which is 9"), (9, 0, "H is 0, below")):
+            self.set_nonces(root, reserved)
             for words in self.every():
-                self.refused(2, *words, says=[f"T is {root}"])
+                self.refused(2, *words, says=[says])
         for root in (0, 6, 12, 3 * 2**60):
-            self.alter(self.anchor, lambda data: data.__setitem__(slice(24, 32), root.to_bytes(8, "big")))
+            self.set_nonces(root, root)
             for words in self.commands():
                 self.refused(8, *words, node=2 if words[0] == "check" else 3)
             self.accepted("show", self.anchor, self.card)
+        for reserved in (9, 12, 3 * 2**60):
+            self.set_nonces(9, reserved)
+            self.accepted("check", self.anchor, self.card)
 
     def test_wipe_mends_what_the_others_refuse(self):
         cards = [bytes(784), b"\xff" * 784, os.urandom(784), self.old[0], bytes(Card(bytes(16), 3).bytes)]

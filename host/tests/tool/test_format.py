@@ -39,7 +39,7 @@ class Format(ToolCase):
         for _ in range(4):
             self.accepted(*self.words("--force"))
             anchor = self.anchor.read_bytes()
-            self.assertEqual(anchor[16:], (3).to_bytes(8, "big") + bytes(8))
+            self.assertEqual(anchor[16:], (3).to_bytes(8, "big") + bytes(16))
             keys.add(anchor[:16])
             self.assertEqual(self.card.read_bytes(), bytes(Card(anchor[:16], 3).bytes))
         self.assertEqual(len(keys), 4)
@@ -70,7 +70,7 @@ class Format(ToolCase):
         self.anchor.symlink_to(real)
         self.accepted(*self.words("--force"))
         self.assertTrue(self.anchor.is_symlink())
-        self.assertEqual(real.stat().st_size, 32)
+        self.assertEqual(real.stat().st_size, 40)
         self.accepted("check", self.anchor, self.card)
 
     def test_force_replaces_one_and_makes_the_other(self):

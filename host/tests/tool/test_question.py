@@ -171,8 +171,9 @@ class Question(ToolCase):
 
     def test_refused_before_it_is_asked(self):
         right = self.model.anchor(), bytes(self.model.bytes)
-        wrong = [(5, right[0][:31], right[1]), (1, KEY + bytes(16), right[1]), (2, right[0][:-1] + b"\7", right[1])]
-        wrong += [(3, right[0], right[1][:-1]), (7, right[0][:24] + b"\xff" * 8, right[1])]
+        wrong = [(5, right[0][:31], right[1]), (1, KEY + bytes(24), right[1]), (2, right[0][:-1] + b"\7", right[1])]
+        wrong += [(2, right[0][:24] + b"\xff" * 8 + bytes(8), right[1])]
+        wrong += [(3, right[0], right[1][:-1]), (7, right[0][:32] + b"\xff" * 8, right[1])]
         for number, anchor, card in wrong:
             self.anchor.write_bytes(anchor)
             self.card.write_bytes(card)
@@ -212,6 +213,7 @@ class Question(ToolCase):
         terminal.type(b"yes\n")
         self.assertEqual(terminal.end(), UNCONFIRMED)
         self.assertIn(f"another process changed the anchor file {self.anchor} before the answer: nothing is wiped\n", terminal.text)
+        self.journal.unlink()
         self.expect_unchanged()
 
     def test_another_anchor_meanwhile(self):
@@ -250,10 +252,10 @@ class Question(ToolCase):
         log = self.room / "log"
         environment = dict(os.environ, LD_PRELOAD=str(FAULTS), FAULT_LOG=str(log))
         self.assertEqual(self.answer(b"no\n", env=environment), UNCONFIRMED)
-        self.assertEqual(log.read_text().splitlines(), ["wipe 33", "wipe 32"])
+        self.assertEqual(log.read_text().splitlines(), ["wipe 41", "wipe 40"])
         log.unlink()
         self.assertEqual(self.answer(b"yes\n", env=environment), 0)
-        self.assertEqual([line for line in log.read_text().splitlines() if line.startswith("wipe")], ["wipe 33", "wipe 33", "wipe 32"])
+        self.assertEqual([line for line in log.read_text().splitlines() if line.startswith("wipe")], ["wipe 41", "wipe 41", "wipe 40"])
 
 
 if __name__ == "__main__":

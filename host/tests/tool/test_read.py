@@ -184,12 +184,12 @@ class Read(ToolCase):
     def test_show(self):
         for words in ([self.anchor], [self.anchor, self.card]):
             output = self.accepted("show", *words)
-            expected = {"depth": "3", "blocks": "8, numbers 0 to 7", "root nonce T": "15"}
-            expected.update({"changes made": "5, writes and wipes together", "card size": "784 bytes"})
+            expected = {"depth": "3", "blocks": "8, numbers 0 to 7", "root nonce T": "15", "reserved H": "15"}
+            expected.update({"changes made": "5, writes and wipes together, and attempts that were lost", "card size": "784 bytes"})
             expected["AES calls"] = "read 10, write 32, check 53, wipe 53"
             self.assertEqual(self.lines_of(output), expected)
             report = self.report("show", *words)
-            expected = {"depth": 3, "blocks": 8, "root_nonce": 15, "changes": 5, "card_bytes": 784}
+            expected = {"depth": 3, "blocks": 8, "root_nonce": 15, "reserved_nonce": 15, "changes": 5, "card_bytes": 784}
             expected["aes_calls"] = {"read": 10, "write": 32, "check": 53, "wipe": 53}
             self.assertEqual({name: report[name] for name in report if name not in ("command", "status", "accepted")}, expected)
             for word in (KEY.hex(), KEY.decode()):
@@ -197,11 +197,21 @@ class Read(ToolCase):
 
     def test_show_tells_the_aes_calls_that_the_model_counts(self):
         for depth in range(1, 17):
-            self.anchor.write_bytes(KEY + depth.to_bytes(8, "big") + bytes(8))
+            self.anchor.write_bytes(KEY + depth.to_bytes(8, "big") + bytes(16))
             calls = aes_calls(depth)
             said = self.lines_of(self.accepted("show", self.anchor))["AES calls"]
             self.assertEqual(said, ", ".join(f"{name} {count}" for name, count in calls.items()))
             self.assertEqual(self.report("show", self.anchor)["aes_calls"], calls)
+
+    def test_show_of_lost_attempts(self):
+        self.model.lose()
+        self.model.lose()
+        self.put(self.model)
+        lines = self.lines_of(self.accepted("show", self.anchor))
+        self.assertEqual((lines["root nonce T"], lines["reserved H"]), ("15", "21: an attempt after the last change was lost"))
+        self.assertEqual(lines["changes made"].split(",")[0], "7")
+        report = self.report("show", self.anchor, self.card)
+        self.assertEqual((report["root_nonce"], report["reserved_nonce"], report["changes"]), (15, 21, 7))
 
     def test_show_of_the_last_nonces(self):
         self.put(Card(KEY, 16, 2**64 - 16))

@@ -107,7 +107,7 @@ class Survey(ToolCase):
     def test_refused_for_another_reason(self):
         words = self.damaged(3)
         card, anchor = self.card.read_bytes(), self.anchor.read_bytes()
-        for change, number in ((anchor[:16] + bytes(16), 1), (anchor[:31] + b"\1", 2), (anchor[:31], 5)):
+        for change, number in ((anchor[:16] + bytes(24), 1), (anchor[:39] + b"\1", 2), (anchor[:31], 5)):
             self.anchor.write_bytes(change)
             self.refused(number, *words)
             self.refused(number, *words, "--picture", "p.svg")

@@ -24,6 +24,7 @@ class Locks(ToolCase):
         last = self.anchor, self.card
         yield "read", *last, "1"
         yield "write", "--text", "x", *last, "1"
+        yield "recover", *last
         yield "wipe", "--yes", *last
         yield "check", *last
         yield "check", "--all", *last

@@ -54,7 +54,7 @@ class Wipe(ToolCase):
     def test_report(self):
         report = self.report(*self.words)
         self.expect_wiped()
-        expected = {"depth": 3, "blocks": 8, "root_nonce": 12, "changes": 4, "card_bytes": 784}
+        expected = {"depth": 3, "blocks": 8, "root_nonce": 12, "reserved_nonce": 12, "changes": 4, "card_bytes": 784}
         self.assertEqual({name: report[name] for name in report if name not in ("command", "status", "accepted")}, expected)
         shown = self.report("show", self.anchor, self.card)
         self.assertEqual({name: shown[name] for name in expected}, expected)
@@ -71,18 +71,18 @@ class Wipe(ToolCase):
                 self.wipe()
 
     def set_anchor(self, depth=3, root=9):
-        self.anchor.write_bytes(KEY + depth.to_bytes(8, "big") + root.to_bytes(8, "big"))
+        self.anchor.write_bytes(KEY + b"".join(number.to_bytes(8, "big") for number in (depth, root, root)))
 
     def test_refusals(self):
         spent = 2**64 - 1
         self.set_anchor(root=spent)
-        self.refused(7, *self.words, says=[f"used up: T is {spent}", "format a card under a new key"])
+        self.refused(7, *self.words, says=[f"used up: H is {spent}", "format a card under a new key"])
         self.set_anchor(root=10)
         self.refused(2, *self.words, says=["T is 10, no multiple of the depth 3"])
         for depth in (0, 17, 2**32 + 3, 2**63):
             self.set_anchor(depth=depth)
             self.refused(1, *self.words, says=[f"the depth is {depth}"])
-        for data in (b"", KEY, bytes(31), bytes(33)):
+        for data in (b"", KEY, bytes(31), bytes(32), bytes(41)):
             self.anchor.write_bytes(data)
             self.refused(5, *self.words, says=["the anchor file has"])
         self.set_anchor()
@@ -110,7 +110,7 @@ class Wipe(ToolCase):
         self.model = Card(KEY, 2, 2**64 - 4)
         self.put(self.model)
         self.wipe()
-        self.refused(7, *self.words, says=["used up: T is 18446744073709551614"])
+        self.refused(7, *self.words, says=["used up: H is 18446744073709551614"])
         self.accepted("check", self.anchor, self.card)
 
     def test_old_card_put_back(self):
@@ -213,7 +213,7 @@ class Wipe(ToolCase):
         def limit(size):
             return {"preexec_fn": lambda: resource.setrlimit(resource.RLIMIT_FSIZE, (size, size))}
 
-        for size in (0, 31, 32, 400, 783):
+        for size in (0, 31, 40, 400, 783):
             self.fails(FILE, *self.words, says=["nothing is changed", "File too large"], **limit(size))
         self.wipe(**limit(784))
 

@@ -6,7 +6,7 @@ import signal
 import stat
 import unittest
 
-from support import CUT, FILE, KEY, FaultCase, wiped
+from support import CUT, FILE, KEY, FaultCase, block, wiped
 
 BESIDE = "box.anchor.roundcard-new"
 
@@ -22,21 +22,40 @@ class WipeCuts(FaultCase):
 
     def expect_mended(self):
         """Another wipe makes all good, and leaves nothing beside the files."""
-        root = int.from_bytes(self.anchor.read_bytes()[24:], "big")
+        reserved = int.from_bytes(self.anchor.read_bytes()[32:], "big")
         self.accepted(*self.words)
-        self.both_equal(wiped(KEY, 3, root + 3))
+        self.both_equal(wiped(KEY, 3, reserved + 3))
         self.accepted("check", self.anchor, self.card)
         self.assertEqual({path.name for path in self.room.iterdir()} - {"log"}, {"box.anchor", "box.card"})
 
     def test_steps(self):
-        self.assertEqual(self.run_with("", *self.words).returncode, 0)
-        steps = (self.room / "log").read_text().splitlines()
-        anchor = [f"write {BESIDE} 32", f"fsync {BESIDE}", f"rename {BESIDE} box.anchor", f"fsync {self.room.name}"]
-        self.assertEqual(steps, [*anchor, "pwrite box.card 0 784", "fsync box.card", "wipe 33"])
+        anchor = [f"write {BESIDE} 40", f"fsync {BESIDE}", f"rename {BESIDE} box.anchor", f"fsync {self.room.name}"]
+        steps = ["fsync box.card", *anchor, "pwrite box.card 0 784", "fsync box.card"]
+        self.assertEqual(self.steps(*self.words), steps)
         self.assertEqual(self.both(), self.new)
+        self.start_again()
+        self.journal.write_bytes(bytes(248))
+        beside = self.room / f"{self.journal.name}.roundcard-new"
+        beside.write_bytes(bytes(17))
+        self.assertEqual(self.steps(*self.words), [*steps, f"unlink {self.journal.name}", f"unlink {beside.name}", f"fsync {self.room.name}"])
+
+    def test_the_last_round_is_not_left_in_a_journal(self):
+        self.start_again()
+        for length in (0, 248, 1000):
+            if length == 248:
+                self.accepted("write", "--text", "the last round", self.anchor, self.card, "5")
+            else:
+                self.journal.write_bytes(bytes(length))
+            self.accepted(*self.words)
+            self.assertFalse(self.journal.exists())
+        self.journal.write_bytes(bytes(248))
+        done = self.run_with(f"unlink:1:{errno.EACCES}", *self.words)
+        self.assertEqual(done.returncode, 0)
+        self.assertIn(b"warning: cannot remove the journal file", done.stderr)
+        self.accepted("check", self.anchor, self.card)
 
     def test_cut_before_the_anchor_is_in_place(self):
-        for fault in ("write:1", "fsync:1", "rename:1"):
+        for fault in ("write:1", "fsync:2", "rename:1"):
             with self.subTest(fault=fault):
                 self.assertEqual(self.run_with(f"{fault}:cut", *self.words).returncode, CUT)
                 self.assertEqual(self.both(), self.old)
@@ -47,7 +66,7 @@ class WipeCuts(FaultCase):
                 self.start_again()
 
     def test_cut_between_anchor_and_card(self):
-        for fault in ("fsync:2", "pwrite:1"):
+        for fault in ("fsync:3", "pwrite:1"):
             with self.subTest(fault=fault):
                 self.assertEqual(self.run_with(f"{fault}:cut", *self.words).returncode, CUT)
                 self.assertEqual(self.both(), (self.old[0], self.new[1]))
@@ -84,7 +103,7 @@ class WipeCuts(FaultCase):
             self.assertEqual(self.accepted("read", self.anchor, self.card, str(index)), bytes(64))
 
     def test_cut_after_the_card_is_out(self):
-        for fault, status in (("fsync:3:cut", CUT), ("fsync:4:cut", 0)):
+        for fault, status in (("fsync:4:cut", CUT), ("fsync:5:cut", 0)):
             self.assertEqual(self.run_with(fault, *self.words).returncode, status)
             self.assertEqual(self.both(), self.new)
             self.expect_mended()
@@ -98,6 +117,31 @@ class WipeCuts(FaultCase):
                 self.expect_mended()
                 self.start_again()
 
+    def test_cut_of_a_wipe_behind_a_write_that_was_cut(self):
+        """Until the wipe's anchor stands the write is not lost, and its journal plays no part from then on."""
+        self.model = self.made(3, [(k, f"round {k}") for k in range(8)])
+        self.model.write(5, block("the last"))
+        written = self.model.anchor(), bytes(self.model.bytes)
+        done = 0
+        for k in range(1, 20):
+            self.start_again()
+            self.run_with("pwrite:3:cut", "write", "--text", "the last", self.anchor, self.card, "5")
+            if self.run_with(f"any:{k}:cut", *self.words).returncode == 0:
+                break
+            before = self.card.read_bytes()
+            report = self.report("recover", self.anchor, self.card)
+            if self.anchor.read_bytes() == written[0]:
+                self.assertIn(report["journal"], ("put in place", "in place"))
+                self.assertEqual(self.card.read_bytes(), written[1])
+                self.accepted("check", self.anchor, self.card)
+            else:
+                self.assertIn(report["journal"], ("earlier write", "none"))
+                self.assertEqual(self.card.read_bytes(), before)
+                done += 1
+            self.expect_mended()
+        self.assertGreaterEqual(done, 4)
+        self.assertEqual(k, 19)
+
     def test_cut_of_a_write_is_mended_by_a_wipe(self):
         words = "write", "--text", "x", self.anchor, self.card, "5"
         for done in range(6):
@@ -106,7 +150,7 @@ class WipeCuts(FaultCase):
             self.start_again()
 
     def test_failures_before_the_anchor_is_in_place(self):
-        for fault in ("write:1", "fsync:1", "rename:1"):
+        for fault in ("fsync:1", "write:1", "fsync:2", "rename:1"):
             for number in (errno.EIO, errno.ENOSPC):
                 self.assertIn("nothing is changed", self.failing(fault, number, *self.words))
                 self.assertEqual(self.both(), self.old)
@@ -117,7 +161,7 @@ class WipeCuts(FaultCase):
         self.assertEqual(self.both(), self.old)
 
     def test_failures_after_it(self):
-        for fault in ("fsync:2", "pwrite:1", "fsync:3"):
+        for fault in ("fsync:3", "pwrite:1", "fsync:4"):
             message = self.failing(fault, errno.EIO, *self.words)
             self.assertIn("box.card could not be written whole: wipe it again: Input/output error", message)
             self.assertEqual(self.anchor.read_bytes(), self.new[1])
@@ -132,7 +176,7 @@ class WipeCuts(FaultCase):
 
     def test_signals_at_every_step_wait_for_the_card(self):
         for number in (signal.SIGINT, signal.SIGTERM, signal.SIGHUP, signal.SIGUSR1, signal.SIGALRM, signal.SIGXCPU):
-            for fault in ("write:1", "fsync:1", "rename:1", "fsync:2", "pwrite:1", "fsync:3"):
+            for fault in (f"any:{k}" for k in range(1, 8)):
                 self.assertEqual(self.signalled(fault, int(number), *self.words), -number)
                 self.assertEqual(self.said, "roundcard wipe: the card is wiped, and a signal came meanwhile\n")
                 self.assertEqual(self.both(), self.new)

@@ -157,14 +157,14 @@ class Write(ToolCase):
         last = self.card, self.anchor
         commands = ["write", "--text", "x", *last, "1"], ["read", *last, "1"], ["wipe", "--yes", *last], ["check", *last], ["check", "--all", *last]
         for words in commands:
-            says = ["the anchor file has 784 bytes, as a card image has, and the card image has 32", "swapped", "give ANCHOR first"]
+            says = ["the anchor file has 784 bytes, as a card image has, and the card image has 40", "swapped", "give ANCHOR first"]
             self.refused(5, *words, says=says)
             self.assertNotIn("chmod", self.said)
         self.refused(5, "show", self.card, self.anchor, says=["the two are swapped"])
         self.refused(5, "show", self.card, says=["as a card image has", "give ANCHOR first"])
         self.assertNotIn("swapped", self.said)
         self.refused(5, "check", self.card, self.card, says=["as a card image has"])
-        self.refused(3, "check", self.anchor, self.anchor, says=["has 32 bytes"])
+        self.refused(3, "check", self.anchor, self.anchor, says=["has 40 bytes"])
 
     def test_block_numbers(self):
         for index in ("8", "18446744073709551615"):
@@ -178,7 +178,7 @@ class Write(ToolCase):
         self.write(1, "--text", "the last")
         self.model.write(1, block("the last"))
         self.both_equal(self.model)
-        self.refused(7, "write", "--text", "x", self.anchor, self.card, "1", says=["used up: T is 18446744073709551614"])
+        self.refused(7, "write", "--text", "x", self.anchor, self.card, "1", says=["used up: H is 18446744073709551614"])
         self.assertEqual(self.accepted("read", "--text", self.anchor, self.card, "1"), b"the last\n")
 
     def test_spoiled_block_can_be_replaced(self):
@@ -246,7 +246,7 @@ class Write(ToolCase):
         self.fails(FILE, *words, says=["box.anchor", "Permission denied"], **options)
         self.anchor.chmod(0o600)
         self.room.chmod(0o555)
-        self.fails(FILE, *words, says=["cannot replace the anchor file", "nothing is changed", "Permission denied"], **options)
+        self.fails(FILE, *words, says=["cannot make a journal file beside", "nothing is changed", "Permission denied"], **options)
         self.room.chmod(0o333)
         done = self.tool(*words, **options)
         self.room.chmod(0o755)

@@ -1,9 +1,9 @@
-//! "Calls": format, read, write and check, the wipe of request T-01, and plan and put of T-03. Each tests first, so that a
-//! refused call has changed nothing; all but format and put count the blocks that AES encrypts for them, which a limit keeps at
-//! none.
+//! "Calls": format, read, write and check, the wipe of request T-01, plan and put of T-03, and the journalled write and the
+//! recovery of T-05. Each tests first, so that a refused call has changed nothing; all but format, put and recovery count the
+//! blocks that AES encrypts for them, which a limit keeps at none.
 
 use super::words::{Anchor, Answer, BlockIndex, Counted, Node, Plan, Planned, Refusal};
-use super::{layout, limits, messages, paths, ranges};
+use super::{journal, layout, limits, messages, paths, ranges};
 use crate::cmac::Cmac;
 
 /// Test 8: each of the nodes has its right tag; a refusal names the first that has not.
@@ -41,7 +41,7 @@ fn counted<T>(
     }
 }
 
-/// Format: zeroes every block and inner nonce and gives every node its tag under the root nonce 0.
+/// Format: zeroes every block and inner nonce and gives every node its tag under the root nonce 0, which is the reserved one too.
 pub fn format(key: &[u8; 16], depth: u64, card: &mut [u8]) -> Answer {
     if let Err(refusal) = limits::format(depth, card) {
         return Answer::Refused(refusal);
@@ -50,6 +50,7 @@ pub fn format(key: &[u8; 16], depth: u64, card: &mut [u8]) -> Answer {
         key: *key,
         depth,
         root: 0,
+        reserved: 0,
     };
     empty(&Cmac::new(key), &anchor, card);
     Answer::Accepted(anchor)
@@ -93,13 +94,53 @@ pub fn write(
 ) -> Counted {
     let limits = limits::write(anchor, card, index, block, buffer);
     counted(limits, &anchor.key, |cmac, index| {
-        let after = write_without_tags(cmac, anchor, card, index, block, buffer)?;
-        for &node in &paths::path(anchor.depth, index)[1..] {
-            messages::put_tag(cmac, &after, card, node);
-            messages::put_tag(cmac, &after, card, node.sibling());
-        }
-        Ok(after)
+        written(cmac, anchor, card, index, block, buffer)
     })
+}
+
+/// Journalled write: the write, and the journal gets what recovery needs. Gives the anchor with H raised too, and its tag is
+/// made apart from the count.
+pub fn write_journalled(
+    anchor: &Anchor,
+    card: &mut [u8],
+    index: u64,
+    block: &[u8],
+    buffer: &mut [u8],
+    journal: &mut [u8],
+) -> (Counted, Option<Anchor>) {
+    let limits = limits::journalled(anchor, card, index, block, buffer, journal);
+    let mut raised = None;
+    let counted = counted(limits, &anchor.key, |cmac, index| {
+        let after = written(cmac, anchor, card, index, block, buffer)?;
+        journal.copy_from_slice(&journal::made(&after, card, index));
+        raised = Some(anchor.raised());
+        Ok(after)
+    });
+    (counted, raised)
+}
+
+/// Recovery: a journal of this anchor's T with a right tag has its bytes put into its ranges; any other changes nothing.
+pub fn recover(anchor: &Anchor, card: &mut [u8], journal: &[u8]) -> Answer {
+    let applied = limits::recovery(anchor, card, journal)
+        .and_then(|()| journal::apply(anchor, card, journal));
+    applied.map(|()| *anchor).into()
+}
+
+/// What an accepted write does, if the tags that it checks are right; gives the new anchor.
+fn written(
+    cmac: &Cmac,
+    anchor: &Anchor,
+    card: &mut [u8],
+    index: BlockIndex,
+    block: &[u8],
+    buffer: &mut [u8],
+) -> Result<Anchor, Refusal> {
+    let after = write_without_tags(cmac, anchor, card, index, block, buffer)?;
+    for &node in &paths::path(anchor.depth, index)[1..] {
+        messages::put_tag(cmac, &after, card, node);
+        messages::put_tag(cmac, &after, card, node.sibling());
+    }
+    Ok(after)
 }
 
 /// All of a write but its new tags, if those that it checks are right; gives the new anchor.
@@ -113,22 +154,20 @@ fn write_without_tags(
 ) -> Result<Anchor, Refusal> {
     let depth = anchor.depth;
     all_right(cmac, anchor, card, paths::write_checks(depth, index))?;
+    let after = anchor.raised().settled();
     let path = paths::path(depth, index);
     for y in 1..depth {
-        let nonce = anchor.root + depth - y;
+        let nonce = after.root - y;
         let node = path[y as usize];
         card[layout::label(depth, node)].copy_from_slice(&nonce.to_be_bytes());
     }
     card[layout::label(depth, layout::leaf(depth, index))].copy_from_slice(block);
     let changed = ranges::encode(&ranges::changed(depth, index));
     buffer[..changed.len()].copy_from_slice(&changed);
-    Ok(Anchor {
-        root: anchor.root + depth,
-        ..*anchor
-    })
+    Ok(after)
 }
 
-/// Plan: a write but for its new tags, whose messages are handed out with their nodes; the anchor stays as it was.
+/// Plan: a write but for its new tags, whose messages are handed out with their nodes; the anchor has H raised, T stays.
 pub fn plan(
     anchor: &Anchor,
     card: &mut [u8],
@@ -151,12 +190,12 @@ pub fn plan(
             plan,
             messages: messages.collect(),
         });
-        Ok(*anchor)
+        Ok(anchor.raised())
     });
     (counted, planned)
 }
 
-/// Put: a tag, whatever it is, goes to a node that the plan waits for. The one that fills the plan brings the new anchor.
+/// Put: a tag, whatever it is, goes to a node that the plan waits for. The one that fills the plan brings the new T.
 pub fn put_tag(
     anchor: &Anchor,
     plan: &mut Plan,
@@ -177,14 +216,11 @@ pub fn put_tag(
     })
 }
 
-/// Wipe: an empty card under the same key, whose nonces are all the next root nonce. No tag on the card is looked at.
+/// Wipe: an empty card under the same key, whose nonces are all the next reserved one. No tag on the card is looked at.
 pub fn wipe(anchor: &Anchor, card: &mut [u8]) -> Counted {
     let limits = limits::wipe(anchor, card);
     counted(limits, &anchor.key, |cmac, ()| {
-        let after = Anchor {
-            root: anchor.root + anchor.depth,
-            ..*anchor
-        };
+        let after = anchor.raised().settled();
         empty(cmac, &after, card);
         Ok(after)
     })

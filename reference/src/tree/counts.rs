@@ -97,7 +97,12 @@ fn refused_by_limits() {
             depth: 17,
             ..anchor
         });
-        none(Anchor { root: 3, ..anchor });
+        none(Anchor { root: 1, ..anchor });
+        none(Anchor {
+            reserved: 5,
+            ..anchor
+        });
+        none(Anchor { root: 4, ..anchor });
         assert_eq!(counts(&anchor, &card[1..], 0), [0; 5]);
         assert_eq!(counts(&anchor, &card, 4)[..3], [0; 3]);
         let read = read(&anchor, &card, 0, &mut [0; 63]);
@@ -108,9 +113,14 @@ fn refused_by_limits() {
             let planned = plan(&anchor, &mut card.clone(), 0, &block, &mut ranges).0;
             assert_eq!([written.count, planned.count], [0; 2]);
         }
-        let root = u64::MAX - 1;
+        let [root, reserved] = [u64::MAX - 1; 2];
+        let beyond = Anchor {
+            root,
+            reserved,
+            ..anchor
+        };
         assert_eq!(
-            counts(&Anchor { root, ..anchor }, &card, 0),
+            counts(&beyond, &card, 0),
             [3, 0, 0, 3, 0],
             "nodes 2 and 3 have tags for another root nonce"
         );

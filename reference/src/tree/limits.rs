@@ -1,7 +1,7 @@
-//! "Who brings a call to a halt": the tests 1 to 7 and 9, and for each call those it has, in their order.
+//! "Who brings a call to a halt": the tests 1 to 7, 9 and 10, and for each call those it has, in their order.
 
 use super::words::{Anchor, BlockIndex, Node, Plan, Refusal};
-use super::{layout, paths, ranges};
+use super::{journal, layout, paths, ranges};
 
 type Test = Result<(), Refusal>;
 
@@ -19,9 +19,15 @@ fn depth(depth: u64) -> Test {
     holds((1..=16).contains(&depth), Refusal::Depth)
 }
 
-/// Test 2: the root nonce is a multiple of the depth.
+/// Test 2: root nonce and reserved nonce are multiples of the depth, and the reserved one is not the lower.
 fn root_nonce(anchor: &Anchor) -> Test {
-    holds(anchor.root.is_multiple_of(anchor.depth), Refusal::RootNonce)
+    let multiples = [anchor.root, anchor.reserved]
+        .iter()
+        .all(|nonce| nonce.is_multiple_of(anchor.depth));
+    holds(
+        multiples && anchor.reserved >= anchor.root,
+        Refusal::RootNonce,
+    )
 }
 
 /// Test 3: the card is as long as its depth wants.
@@ -47,12 +53,17 @@ fn ranges_length(depth: u64, buffer: &[u8]) -> Test {
     )
 }
 
-/// Test 7: the next root nonce still fits 64 bits.
+/// Test 7: the next reserved nonce still fits 64 bits.
 fn nonces_left(anchor: &Anchor) -> Test {
     holds(
-        anchor.depth <= u64::MAX - anchor.root,
+        anchor.depth <= u64::MAX - anchor.reserved,
         Refusal::NoncesUsedUp,
     )
+}
+
+/// Test 10, for both calls that have it: the journal is as long as its depth wants.
+fn journal_length(depth: u64, journal: &[u8]) -> Test {
+    holds(journal.len() == journal::bytes(depth), Refusal::Journal)
 }
 
 /// Test 9: the plan waits for a tag of that node; gives the node's place among the plan's.
@@ -120,6 +131,32 @@ pub fn write(
     depth(anchor.depth)?;
     root_nonce(anchor)?;
     card_length(anchor.depth, card)?;
+    lent(anchor, index, block, buffer)
+}
+
+/// The limits of a journalled write, which tests the journal's length after the card's; gives the index that passed.
+pub fn journalled(
+    anchor: &Anchor,
+    card: &[u8],
+    index: u64,
+    block: &[u8],
+    buffer: &[u8],
+    journal: &[u8],
+) -> Result<BlockIndex, Refusal> {
+    recovery(anchor, card, journal)?;
+    lent(anchor, index, block, buffer)
+}
+
+/// The limits of a recovery that stand before it looks into the journal.
+pub fn recovery(anchor: &Anchor, card: &[u8], journal: &[u8]) -> Test {
+    depth(anchor.depth)?;
+    root_nonce(anchor)?;
+    card_length(anchor.depth, card)?;
+    journal_length(anchor.depth, journal)
+}
+
+/// The tests 4 to 7, which all writes have in common; gives the index that passed.
+fn lent(anchor: &Anchor, index: u64, block: &[u8], buffer: &[u8]) -> Result<BlockIndex, Refusal> {
     block_index(anchor.depth, index)?;
     block_length(block)?;
     ranges_length(anchor.depth, buffer)?;

@@ -30,3 +30,14 @@ pub fn encode(ranges: &[Range<usize>]) -> Vec<u8> {
     }
     bytes
 }
+
+/// The pairs of offset and length in a list.
+pub fn decode(list: &[u8]) -> impl Iterator<Item = (u32, u32)> + '_ {
+    let number = |bytes: &[u8]| {
+        bytes
+            .iter()
+            .fold(0, |sum, &byte| sum << 8 | u32::from(byte))
+    };
+    list.chunks_exact(8)
+        .map(move |pair| (number(&pair[..4]), number(&pair[4..])))
+}

@@ -23,9 +23,14 @@ fn written(anchor: &Anchor, card: &mut [u8], index: u64) -> Anchor {
     }
 }
 
-/// The card with the tags of nodes 2 and 3 made anew for another root nonce, and the anchor with it.
+/// The card with the tags of nodes 2 and 3 made anew for another root nonce, and the anchor with it, the reserved one too.
 fn moved_to(anchor: &Anchor, card: &mut [u8], root: u64) -> Anchor {
-    let moved = Anchor { root, ..*anchor };
+    let reserved = root;
+    let moved = Anchor {
+        root,
+        reserved,
+        ..*anchor
+    };
     for node in [Node(2), Node(3)] {
         messages::put_tag(&Cmac::new(&KEY), &moved, card, node);
     }

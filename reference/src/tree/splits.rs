@@ -26,11 +26,12 @@ fn accepted(answer: Answer) -> Anchor {
     }
 }
 
-/// Plans the block; no refusal will do, and the anchor stays.
-fn planned(anchor: &Anchor, card: &mut [u8], index: u64, ranges: &mut [u8]) -> Planned {
+/// Plans the block; no refusal will do, and the anchor has H raised and the old T.
+fn planned(anchor: &Anchor, card: &mut [u8], index: u64, ranges: &mut [u8]) -> (Anchor, Planned) {
     let (counted, planned) = plan(anchor, card, index, &BLOCK, ranges);
-    assert_eq!(accepted(counted.answer), *anchor);
-    planned.expect("what an accepted plan hands out")
+    let raised = accepted(counted.answer);
+    assert_eq!(raised, anchor.raised());
+    (raised, planned.expect("what an accepted plan hands out"))
 }
 
 /// Depth 3, block 5, from T = 6: nodes 3 and 6 get 8 and 7, the leaf at 544 its block, and no tag changes.
@@ -40,7 +41,7 @@ fn leaves_new_labels_and_old_tags() {
     assert_eq!(anchor.root, 6);
     let (mut card, mut written) = (before.clone(), before.clone());
     let (mut ranges, mut due) = ([0x99; 51], [0x99; 51]);
-    let made = planned(&anchor, &mut card, 5, &mut ranges);
+    let (_, made) = planned(&anchor, &mut card, 5, &mut ranges);
     let mut expected = before;
     expected[24..32].copy_from_slice(&8_u64.to_be_bytes());
     expected[96..104].copy_from_slice(&7_u64.to_be_bytes());
@@ -48,19 +49,15 @@ fn leaves_new_labels_and_old_tags() {
     assert_eq!(card, expected);
     accepted(write(&anchor, &mut written, 5, &BLOCK, &mut due).answer);
     assert_eq!(ranges, due);
-    let plan = Plan {
-        index: 5,
-        root: 9,
-        filled: 0,
-    };
-    assert_eq!(made.plan, plan);
+    let plan = made.plan;
+    assert_eq!([plan.index, plan.root, plan.filled], [5, 9, 0]);
 }
 
 /// The six messages of that plan: labels as planned or the sibling's own, the parent's new nonce, and the side.
 #[test]
 fn hands_out_the_messages() {
     let (anchor, mut card) = used(3);
-    let made = planned(&anchor, &mut card, 5, &mut [0; 48]);
+    let (_, made) = planned(&anchor, &mut card, 5, &mut [0; 48]);
     let number = |number: u64| number.to_be_bytes().to_vec();
     let expected = [
         (2, number(5), 9, 0),
@@ -109,7 +106,8 @@ fn every_order() {
         for index in 0..layout::blocks(depth) {
             let (mut written, mut card) = (card.clone(), card.clone());
             let after = accepted(write(&anchor, &mut written, index, &BLOCK, &mut [0; 48]).answer);
-            let Planned { plan, messages } = planned(&anchor, &mut card, index, &mut [0; 48]);
+            let (anchor, made) = planned(&anchor, &mut card, index, &mut [0; 48]);
+            let Planned { plan, messages } = made;
             let tags = messages.iter();
             let waiting = tags.map(|(node, message)| (node.0, cmac.tag(message)));
             let split = Split {
@@ -154,7 +152,13 @@ fn limits_of_the_write() {
         (2, last, 0, 3, 64, 32, 7),
         (2, 4, 0, 3, 64, 32, 0),
     ] {
-        let anchor = Anchor { key, depth, root };
+        let reserved = root;
+        let anchor = Anchor {
+            key,
+            depth,
+            root,
+            reserved,
+        };
         let answer = answered(&anchor, &card[missing..], index, block, ranges);
         assert_eq!(answer, (number, 0));
     }
@@ -191,7 +195,13 @@ fn put_refuses_in_order() {
         (2, u64::MAX - 1, 368, 2, 3, 0, 0),
     ] {
         let key = KEY;
-        let anchor = Anchor { key, depth, root };
+        let reserved = root;
+        let anchor = Anchor {
+            key,
+            depth,
+            root,
+            reserved,
+        };
         let root = 77;
         let before = Plan {
             index,
@@ -253,32 +263,36 @@ fn wrong_tags_are_put() {
     let (anchor, card) = used(3);
     for wrong in 0..6 {
         let mut card = card.clone();
-        let made = planned(&anchor, &mut card, 5, &mut [0; 48]);
-        let (mut plan, mut last) = (made.plan, anchor);
+        let (raised, made) = planned(&anchor, &mut card, 5, &mut [0; 48]);
+        let (mut plan, mut last) = (made.plan, raised);
         for (place, (node, message)) in made.messages.iter().enumerate() {
             let mut tag = Cmac::new(&KEY).tag(message);
             tag[15] ^= u8::from(place == wrong);
-            last = accepted(put_tag(&anchor, &mut plan, &mut card, node.0, &tag));
+            last = accepted(put_tag(&raised, &mut plan, &mut card, node.0, &tag));
         }
         let refused = Answer::Refused(Refusal::Wrong(made.messages[wrong].0));
         assert_eq!(check(&last, &card).answer, refused);
     }
 }
 
-/// With tags missing, the block is refused under the anchor that still holds, and a plan from the card of before goes through.
+/// With tags missing, the block is refused. A plan from the card of before takes other nonces and gives none of its messages.
 #[test]
 fn left_unfinished() {
     let (anchor, before) = used(3);
     let mut card = before.clone();
-    let made = planned(&anchor, &mut card, 5, &mut [0; 48]);
+    let (raised, made) = planned(&anchor, &mut card, 5, &mut [0; 48]);
     let mut plan = made.plan;
     for (node, message) in &made.messages[1..] {
-        assert_eq!(read(&anchor, &card, 5, &mut [0; 64]).answer.number(), 8);
-        assert_eq!(check(&anchor, &card).answer.number(), 8);
+        assert_eq!(read(&raised, &card, 5, &mut [0; 64]).answer.number(), 8);
+        assert_eq!(check(&raised, &card).answer.number(), 8);
         let tag = Cmac::new(&KEY).tag(message);
-        accepted(put_tag(&anchor, &mut plan, &mut card, node.0, &tag));
+        let still = put_tag(&raised, &mut plan, &mut card, node.0, &tag);
+        assert_eq!(accepted(still), raised);
     }
     assert_eq!(plan.filled, 0b11_1110);
-    let again = planned(&anchor, &mut before.clone(), 5, &mut [0; 48]);
-    assert_eq!(again, made);
+    let (twice, again) = planned(&raised, &mut before.clone(), 5, &mut [0; 48]);
+    assert_eq!([twice.root, twice.reserved, again.plan.root], [6, 12, 12]);
+    for message in &again.messages {
+        assert!(!made.messages.contains(message));
+    }
 }

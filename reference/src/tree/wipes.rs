@@ -60,7 +60,13 @@ fn leaves_an_empty_card() {
         assert_eq!(anchor.root, 3 * depth);
         let once = accepted(wipe(&anchor, &mut card).answer);
         let root = 4 * depth;
-        assert_eq!(once, Anchor { root, ..anchor });
+        let reserved = root;
+        let due = Anchor {
+            root,
+            reserved,
+            ..anchor
+        };
+        assert_eq!(once, due);
         assert_eq!(card, expected(depth, 4 * depth));
         assert!(numbers(&once, &card).iter().all(|&number| number == 0));
         let twice = accepted(wipe(&once, &mut card).answer);
@@ -107,7 +113,13 @@ fn refusals_in_order() {
         (2, last - 2, 368, 0),
     ] {
         let key = KEY;
-        let anchor = Anchor { key, depth, root };
+        let reserved = root;
+        let anchor = Anchor {
+            key,
+            depth,
+            root,
+            reserved,
+        };
         let mut card = vec![0x3d; length];
         let answer = wipe(&anchor, &mut card).answer;
         assert_eq!(answer.number(), number, "{anchor:?}, {length}");
@@ -119,10 +131,15 @@ fn refusals_in_order() {
 #[test]
 fn largest_sum_fits() {
     for depth in [1, 3, 5] {
-        let (key, root) = (KEY, u64::MAX - depth);
+        let anchor = Anchor {
+            key: KEY,
+            depth,
+            root: 7 * depth,
+            reserved: u64::MAX - depth,
+        };
         let mut card = vec![0; layout::card_bytes(depth)];
-        let after = accepted(wipe(&Anchor { key, depth, root }, &mut card).answer);
-        assert_eq!(after.root, u64::MAX);
+        let after = accepted(wipe(&anchor, &mut card).answer);
+        assert_eq!([after.root, after.reserved], [u64::MAX; 2]);
         assert_eq!(card, expected(depth, u64::MAX));
         let numbers = numbers(&after, &card);
         assert_eq!(numbers[0], 0);

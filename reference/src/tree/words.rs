@@ -36,12 +36,31 @@ impl Node {
     }
 }
 
-/// What the chip keeps: the key, the depth n and the root's nonce T.
+/// What the chip keeps: the key, the depth n, the root's nonce T, and the reserved nonce H, the last that a call was given.
 #[derive(Clone, Copy, Debug, PartialEq, Eq)]
 pub struct Anchor {
     pub key: [u8; 16],
     pub depth: u64,
     pub root: u64,
+    pub reserved: u64,
+}
+
+impl Anchor {
+    /// H raised by n, T as it was: what an accepted call begins with.
+    pub fn raised(self) -> Self {
+        Anchor {
+            reserved: self.reserved + self.depth,
+            ..self
+        }
+    }
+
+    /// T becomes H: what an accepted call ends with.
+    pub fn settled(self) -> Self {
+        Anchor {
+            root: self.reserved,
+            ..self
+        }
+    }
 }
 
 /// What a plan and its puts keep: the block's number, the root nonce that the last put brings, and which places are filled. Bit
@@ -65,6 +84,7 @@ pub enum Refusal {
     NoncesUsedUp,
     Wrong(Node),
     NotAwaited,
+    Journal,
 }
 
 /// What a call answers: the anchor that holds from now on, or the refusal.
@@ -88,6 +108,7 @@ impl Answer {
             Answer::Refused(Refusal::NoncesUsedUp) => 7,
             Answer::Refused(Refusal::Wrong(_)) => 8,
             Answer::Refused(Refusal::NotAwaited) => 9,
+            Answer::Refused(Refusal::Journal) => 10,
         }
     }
 
@@ -100,7 +121,7 @@ impl Answer {
     }
 }
 
-/// What read, write, plan, check and wipe give: the answer, and how many blocks AES encrypted for it.
+/// What read, write (journalled or not), plan, check and wipe give: the answer, and how many blocks AES encrypted for it.
 #[derive(Clone, Copy, Debug, PartialEq, Eq)]
 pub struct Counted {
     pub answer: Answer,

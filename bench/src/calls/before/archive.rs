@@ -1,7 +1,12 @@
-//! An archive of the calls: the present one, or an older one whose names the build has changed.
+//! An archive of the calls: the present one, or an older one whose names the build has changed. One from before the reserved nonce
+//! takes an anchor of 32 bytes, which the longer one begins with.
 
-use crate::calls::card::Calls;
+use crate::calls::card::{card_bytes, Calls};
+use reference::host::ANCHOR_BYTES;
 use std::cell::Cell;
+
+/// Where the root nonce lies in an anchor; the reserved nonce is behind it.
+const ROOT: std::ops::Range<usize> = 24..32;
 
 type Format = unsafe extern "C" fn(*mut u8, usize, *mut u8, usize) -> u64;
 type Read = unsafe extern "C" fn(*const u8, usize, *const u8, usize, u64, *mut u8, usize) -> u64;
@@ -26,6 +31,45 @@ pub struct Archive {
     pub write: Write,
     pub check: Check,
     pub wipe: Format,
+    /// How many bytes its anchor has.
+    pub anchor: usize,
+}
+
+impl Archive {
+    /// Finds out how many bytes of the anchor the archive takes.
+    fn measured(mut self) -> Self {
+        let (mut anchor, mut card) = ([0; ANCHOR_BYTES], vec![0; card_bytes(1)]);
+        anchor[23] = 1;
+        // SAFETY: the pointers and lengths are those of arrays that live through the call and lie apart.
+        let answer = unsafe {
+            (self.format)(
+                anchor.as_mut_ptr(),
+                self.anchor,
+                card.as_mut_ptr(),
+                card.len(),
+            )
+        };
+        if answer != 0 {
+            self.anchor = ROOT.end;
+        }
+        self
+    }
+
+    /// What it takes of an anchor: another length stays another one.
+    fn taken(&self, anchor: &[u8]) -> usize {
+        match anchor.len() {
+            ANCHOR_BYTES => self.anchor,
+            other => other.min(self.anchor - 1),
+        }
+    }
+}
+
+/// Makes the reserved nonce of a whole anchor its root nonce, as after every accepted call of these, whatever the archive takes.
+fn settle(anchor: &mut [u8], answer: u64) -> u64 {
+    if answer == 0 {
+        anchor.copy_within(ROOT, ROOT.end);
+    }
+    answer
 }
 
 /// The archive whose functions have these names.
@@ -67,7 +111,9 @@ macro_rules! archive {
             write: $write,
             check: $check,
             wipe: $wipe,
+            anchor: ANCHOR_BYTES,
         }
+        .measured()
     }};
 }
 
@@ -97,9 +143,11 @@ pub fn before() -> Option<Archive> {
 /// The calls of the archive whose turn it is.
 impl Calls for Cell<Archive> {
     fn format(&self, anchor: &mut [u8], card: &mut [u8]) -> u64 {
-        let (anchor, anchor_len) = (anchor.as_mut_ptr(), anchor.len());
+        let (archive, start) = (self.get(), anchor.as_mut_ptr());
+        let length = archive.taken(anchor);
         // SAFETY: the pointers and lengths are those of slices that live through the call and lie apart.
-        unsafe { (self.get().format)(anchor, anchor_len, card.as_mut_ptr(), card.len()) }
+        let answer = unsafe { (archive.format)(start, length, card.as_mut_ptr(), card.len()) };
+        settle(anchor, answer)
     }
 
     fn read(&self, anchor: &[u8], card: &[u8], index: u64, buffer: &mut [u8]) -> u64 {
@@ -107,7 +155,7 @@ impl Calls for Cell<Archive> {
         unsafe {
             (self.get().read)(
                 anchor.as_ptr(),
-                anchor.len(),
+                self.get().taken(anchor),
                 card.as_ptr(),
                 card.len(),
                 index,
@@ -125,11 +173,12 @@ impl Calls for Cell<Archive> {
         block: &[u8],
         ranges: &mut [u8],
     ) -> u64 {
+        let length = self.get().taken(anchor);
         // SAFETY: the pointers and lengths are those of slices that live through the call; those written lie apart.
-        unsafe {
+        let answer = unsafe {
             (self.get().write)(
                 anchor.as_mut_ptr(),
-                anchor.len(),
+                length,
                 card.as_mut_ptr(),
                 card.len(),
                 index,
@@ -138,17 +187,27 @@ impl Calls for Cell<Archive> {
                 ranges.as_mut_ptr(),
                 ranges.len(),
             )
-        }
+        };
+        settle(anchor, answer)
     }
 
     fn check(&self, anchor: &[u8], card: &[u8]) -> u64 {
         // SAFETY: the pointers and lengths are those of slices that live through the call.
-        unsafe { (self.get().check)(anchor.as_ptr(), anchor.len(), card.as_ptr(), card.len()) }
+        unsafe {
+            (self.get().check)(
+                anchor.as_ptr(),
+                self.get().taken(anchor),
+                card.as_ptr(),
+                card.len(),
+            )
+        }
     }
 
     fn wipe(&self, anchor: &mut [u8], card: &mut [u8]) -> u64 {
-        let (anchor, anchor_len) = (anchor.as_mut_ptr(), anchor.len());
+        let (archive, start) = (self.get(), anchor.as_mut_ptr());
+        let length = archive.taken(anchor);
         // SAFETY: the pointers and lengths are those of slices that live through the call and lie apart.
-        unsafe { (self.get().wipe)(anchor, anchor_len, card.as_mut_ptr(), card.len()) }
+        let answer = unsafe { (archive.wipe)(start, length, card.as_mut_ptr(), card.len()) };
+        settle(anchor, answer)
     }
 }

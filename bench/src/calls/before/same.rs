@@ -26,7 +26,7 @@ struct Given {
 impl Given {
     /// A format of a card of that depth.
     fn new(depth: u32) -> Self {
-        let numbers = [u64::from(depth), 0].map(u64::to_be_bytes).concat();
+        let numbers = [u64::from(depth), 0, 0].map(u64::to_be_bytes).concat();
         Given {
             call: Call::Format,
             anchor: [&KEY[..], &numbers].concat(),
@@ -66,9 +66,12 @@ impl Given {
         match way {
             0 => {}
             1 => self.anchor[23] = 17,
-            2 => self.anchor[31] ^= 1,
+            2 => {
+                self.anchor[31] ^= 1;
+                self.anchor[39] ^= 1;
+            }
             3 => self.anchor[24..].fill(0xff),
-            4 => self.anchor.truncate(31),
+            4 => self.anchor.truncate(39),
             5 => self.card.truncate(turn),
             6 => self.index += 1 << (6 + turn),
             7 => self.block.push(0),
@@ -127,7 +130,7 @@ pub fn compare(one: &dyn Calls, other: &dyn Calls) -> Result<[usize; 9], String>
 
 #[cfg(test)]
 mod tests {
-    use super::super::archive::{present, Archive};
+    use super::super::archive::{before, present, Archive};
     use super::*;
     use crate::calls::card::Reference;
     use std::cell::Cell;
@@ -136,6 +139,18 @@ mod tests {
     #[test]
     fn all_answers() {
         let answers = compare(&Cell::new(present()), &Reference).expect("the same");
+        assert!(answers.iter().all(|&count| count >= 24), "{answers:?}");
+    }
+
+    /// So is the older one, where the build has one, whichever anchor it takes.
+    #[test]
+    fn the_older_one() {
+        let Some(before) = before() else {
+            println!("skipped: no older archive");
+            return;
+        };
+        println!("an anchor of {} bytes", before.anchor);
+        let answers = compare(&Cell::new(before), &Reference).expect("the same");
         assert!(answers.iter().all(|&count| count >= 24), "{answers:?}");
     }
 

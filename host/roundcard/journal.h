@@ -1,0 +1,50 @@
+// The journal file, beside the card image: what the last write put on the card, for a recovery.
+#ifndef JOURNAL_H
+#define JOURNAL_H
+
+#include "anchor.h"
+#include "card.h"
+
+struct journal {
+    char *path; // beside the card, with links resolved
+    bool there;
+    uint8_t bytes[PAT_MAX_JOURNAL_BYTES + 1];
+    size_t
+        length; // of the bytes read, one more than the longest journal's for a file that is longer
+    bool pending; // not all of its bytes were on the card
+};
+
+// Where the journal of that card is, in memory that the caller frees, NULL with errno.
+char *journal_path(const char *card);
+
+// Reads the file, where there is one. Gives 0, or the status of the error it reported.
+int journal_open(const struct request *request, struct journal *journal, const struct card *card);
+
+void journal_close(struct journal *journal);
+
+// Lets the library recover the card in memory, and sees whether that changed it. Gives the
+// library's answer, which tests anchor and card where there is no file too.
+uint64_t journal_recover(const struct anchor *anchor, struct card *card, struct journal *journal);
+
+// What a journal is to a card that was recovered in memory.
+enum standing {
+    NO_JOURNAL,
+    EARLIER_WRITE, // its T is below the anchor's
+    LOST_WRITE,    // its T is above the anchor's: that write was cut before its new T stood
+    WRONG_TAG,     // it has the anchor's T, and is damaged or another card's
+    IN_PLACE,      // all of its bytes were on the card
+    PUT_IN_PLACE   // they were not
+};
+
+enum standing journal_standing(const struct anchor *anchor, const struct card *card,
+                               const struct journal *journal);
+
+// Whether a recovery of the card would change it; the card in memory is then the recovered one. It
+// reports nothing: where it cannot see that, it is not so.
+bool journal_would_change(const struct anchor *anchor, struct card *card);
+
+// Removes the file, for a card on which nothing is to be recovered any more, and what a cut left
+// beside it. Warns where that fails: a journal has a round.
+void journal_remove(const struct request *request, const char *path);
+
+#endif
