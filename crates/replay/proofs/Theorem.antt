@@ -59,7 +59,7 @@ module _ (F : List ℕ → List ℕ) (F16 : (m : List ℕ) → length (F m) ≡ 
   begun = start F key n card
 
   -- the format is accepted, and leaves a blank card
-  abbrev blank : State
+  abbrev pub blank : State
   blank =
       let left = blanked F n 0 card in
       record {
@@ -67,7 +67,7 @@ module _ (F : List ℕ → List ℕ) (F16 : (m : List ℕ) → length (F m) ≡ 
         tagged = map (message (labels n 0 left)) (all_nodes n);
       }
 
-  begun-is : start F key n card ≡ blank
+  pub begun-is : start F key n card ≡ blank
   unfolding start format
   begun-is =
       ap
@@ -80,7 +80,7 @@ module _ (F : List ℕ → List ℕ) (F16 : (m : List ℕ) → length (F m) ≡ 
       b)
       (format-accept n card deep shallow full)
 
-  good_start : Good F F16 (start F key n card)
+  pub good_start : Good F F16 (start F key n card)
   good_start =
       subst (Good F F16) (sym begun-is)
       (record {
