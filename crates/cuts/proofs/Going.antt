@@ -177,5 +177,7 @@ module _ (F : List ℕ → List ℕ) (F16 : (m : List ℕ) → length (F m) ≡ 
         opened = λ xs i block ranges v. opened xs (attempting i block ranges (cut v)) tt;
         opened-again = λ xs v. opened xs (recovering (cut v)) tt;
         still-open = still-open;
-        waits = λ xs x w l. l.settled (last xs x) w;
+        attempt-waits = λ xs i block ranges e l. l.settled (last xs (attempting i block ranges e)) tt;
+        call-waits = λ xs c r l. l.settled (last xs (calling c)) r;
+        split-waits = λ xs i block ranges puts l. l.settled (last xs (splitting i block ranges puts)) tt;
       }

@@ -1,18 +1,19 @@
 -- The list of a world is one of demand 3, and T on the chip tells array and card.
-use mathlib.Core.Path.{◌≡◌, refl, sym, subst}
+use mathlib.Core.Path.{◌≡◌, refl, sym, ap, subst, ◌∙◌}
 use mathlib.Core.List.{List}
 use Prim.Native.Nat.{ℕ, ◌≤◌}
 use lib.ListN.{length}
 use Rattle.tree.specs.Answer.{Whole}
 use Rattle.tree.specs.Layout.{card_length}
 use Rattle.tree.specs.Calls.{format}
-use Rattle.replay.specs.Run.{State, start}
+use Rattle.tree.specs.declared.Anchor.{Anchor}
+use Rattle.replay.specs.Run.{State, start, after}
 use Rattle.replay.specs.Claim.{AllComplete, Demand3}
 use Rattle.replay.specs.Tagged.{Unforged}
 use Rattle.replay.specs.Nonces.{NonceRule}
-use Rattle.replay.proofs.Theorem.{demand3-any, unforged-any, nonces-any}
+use Rattle.replay.proofs.Theorem.{demand3-any, key-any, unforged-any, nonces-any}
 use Rattle.cuts.specs.Media.{Media}
-use Rattle.cuts.specs.World.{Ending, Item, attempting, World, tried, next_world, steps, begins, Possible, before, Lawful}
+use Rattle.cuts.specs.World.{Ending, Item, attempting, World, tried, next_world, world_after, steps, begins, Possible, before, Lawful}
 use Rattle.cuts.specs.Claim.{ByRoot, IsList}
 use Rattle.cuts.proofs.Arrivals.{held, placed, placed-is, arrives, root-of}
 use Rattle.cuts.proofs.Chip.{known-is, chip-after, all-complete, chip-at}
@@ -50,11 +51,25 @@ module _ (F : List ℕ → List ℕ) (F16 : (m : List ℕ) → length (F m) ≡ 
     complete : AllComplete F (start F key n card) (steps F w₀ xs)
     complete = subst (λ (s : State). AllComplete F s (steps F w₀ xs)) known₀ (all-complete F F16 xs w₀ chip lawful.possible)
 
-    pub is-list-any : IsList F (begins F key n card journal) n xs
+    chip-end : (world_after F w₀ xs).media.anchor ≡ (world_after F w₀ xs).known.store.anchor
+    chip-end = chip-after F F16 xs w₀ chip lawful.possible
+
+    known-end : (world_after F w₀ xs).known ≡ after F (start F key n card) (steps F w₀ xs)
+    known-end = known-is F xs w₀ ∙ ap (λ (s : State). after F s (steps F w₀ xs)) known₀
+
+    kept : ((after F (start F key n card) (steps F w₀ xs)).store.anchor.key ≡ key)
+        × ((after F (start F key n card) (steps F w₀ xs)).store.anchor.depth ≡ n)
+    kept = key-any F F16 key n deep shallow card full complete
+
+    pub is-list-any : IsList F (begins F key n card journal) key n xs
     is-list-any =
         record {
           known = known-is F xs w₀;
-          chip = chip-after F F16 xs w₀ chip lawful.possible;
+          chip = chip-end;
+          keeps = (
+            ap (λ (a : Anchor). a.key) chip-end ∙ ap (λ (s : State). s.store.anchor.key) known-end ∙ kept.0,
+            ap (λ (a : Anchor). a.depth) chip-end ∙ ap (λ (s : State). s.store.anchor.depth) known-end ∙ kept.1,
+          );
           by-root = λ p i block ranges e is.
               subst
               (λ (x : Item).

@@ -55,7 +55,7 @@ module _ (key : List ℕ) (n : ℕ) (deep : 1 ≤ n) (shallow : n ≤ 16) (card 
     pub recovers : Recovers (cmac_of key) (begins (cmac_of key) key n card journal) xs
     recovers = recovers-any F (length-cmac key) key n deep shallow card full journal long xs lawful
 
-    pub is-list : IsList (cmac_of key) (begins (cmac_of key) key n card journal) n xs
+    pub is-list : IsList (cmac_of key) (begins (cmac_of key) key n card journal) key n xs
     is-list = is-list-any F (length-cmac key) key n deep shallow card full journal xs lawful
 
     pub tags : Tags (cmac_of key) (begins (cmac_of key) key n card journal) xs

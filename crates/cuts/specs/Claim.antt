@@ -55,7 +55,8 @@ module _ (F : List ℕ → List ℕ) where
     pub right : F (message_of w.media.anchor.depth w.media.journal) ≡ tag_of w.media.anchor.depth w.media.journal
     pub untagged : Memᴰ (message_of w.media.anchor.depth w.media.journal) w.known.tagged → ⊥
 
--- What is known in v behind an accepted attempt in w, which does o, by T on the chip: the old array and card, or the new ones.
+-- What is known in v behind an accepted attempt in w, which does o, by T on the chip: where T is as it was, the array and the card as last
+-- left are the old ones; where it is the H that was raised, the new ones, and the card has all its ranges out.
 pub record ByRoot (w v : World) (o : Journalled) (i : ℕ) (block : List ℕ) : Type 0 where
   pub old : v.media.anchor.root.0 ≡ w.media.anchor.root.0
       → (v.known.store.array ≡ w.known.store.array) × (v.known.store.left ≡ w.known.store.left)
@@ -107,10 +108,12 @@ module _ (F : List ℕ → List ℕ) (w₀ : World) where
   abbrev pub Recovers : List Item → Type 0
   Recovers xs = Kept xs ⊎ Forgery xs
 
-  -- The list is one of demand 3, whatever was forged: its anchor is the chip's, and its array and card as last left are told by T.
-  pub record IsList (n : ℕ) (xs : List Item) : Type 0 where
+  -- The list is one of demand 3, whatever was forged: its anchor is the chip's, with the key and the depth of the format, and its array and
+  -- card as last left are told by T.
+  pub record IsList (key : List ℕ) (n : ℕ) (xs : List Item) : Type 0 where
     pub known : (world_after F w₀ xs).known ≡ after F w₀.known (steps F w₀ xs)
     pub chip : (world_after F w₀ xs).media.anchor ≡ (world_after F w₀ xs).known.store.anchor
+    pub keeps : ((world_after F w₀ xs).media.anchor.key ≡ key) × ((world_after F w₀ xs).media.anchor.depth ≡ n)
     pub by-root : (p : Place xs) (i : ℕ) (block ranges : List ℕ) (e : Ending) → p.item ≡ attempting i block ranges e
         → (tried F (media_before p) i block ranges).call.answer ≡ Whole
         → ByRoot (before F w₀ p) (next_world F (before F w₀ p) p.item) (tried F (media_before p) i block ranges) i block

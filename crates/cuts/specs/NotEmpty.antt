@@ -19,7 +19,7 @@ use Rattle.replay.specs.Run.{Fate, unheard, lost, stood, Step, call, split, atte
 use Rattle.replay.specs.Tagged.{CallTags, JournalTags, Accepts}
 use Rattle.cuts.specs.Media.{Media, all_out, four_steps, one_step, Outside, Cut, fate_of}
 use Rattle.cuts.specs.World.{Ending, whole, cut, Item, attempting, recovering, calling, splitting, World, tried, recovery, media_after}
-use Rattle.cuts.specs.World.{steps, begins, next_world, world_after, Writes, Settled, before, Lawful}
+use Rattle.cuts.specs.World.{steps, begins, next_world, world_after, Settled, before, Lawful}
 use Rattle.cuts.specs.Claim.{media_before, Kept, Forgery}
 
 -- What a cut may leave
@@ -200,7 +200,11 @@ module _ (F : List ℕ → List ℕ) (w₀ : World) where
     pub opened-again : (xs : List Item) (v : Media) → Settled (xs ++ (recovering (cut v) ∷ [])) → ⊥
     pub still-open : (xs : List Item) (x : Item) → (x ≡ recovering whole → ⊥) → Settled (xs ++ (x ∷ [])) → Settled xs
     -- and then no list goes on with an attempt, another write or a wipe
-    pub waits : (xs : List Item) (x : Item) → Writes x → Lawful F w₀ (xs ++ (x ∷ [])) → Settled xs
+    pub attempt-waits : (xs : List Item) (i : ℕ) (block ranges : List ℕ) (e : Ending)
+        → Lawful F w₀ (xs ++ (attempting i block ranges e ∷ [])) → Settled xs
+    pub call-waits : (xs : List Item) (c : Call) → renews c ≡ true → Lawful F w₀ (xs ++ (calling c ∷ [])) → Settled xs
+    pub split-waits : (xs : List Item) (i : ℕ) (block ranges : List ℕ) (puts : List PutStep)
+        → Lawful F w₀ (xs ++ (splitting i block ranges puts ∷ [])) → Settled xs
 
 -- The world begins after a format of depth n, with any bytes as the journal.
 pub record Begins (F : List ℕ → List ℕ) (key : List ℕ) (n : ℕ) (card journal : List ℕ) : Type 0 where

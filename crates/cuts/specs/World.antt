@@ -17,7 +17,7 @@ pub data Ending : Type 0 where
   cut : Media → Ending
 
 -- An attempt, a journalled write that is lent the journal on the media; a recovery; a call; or a split write. Each has the card on the
--- media.
+-- media. Of a plain call and a split write that is cut nothing is claimed: they are whole.
 pub data Item : Type 0 where
   attempting : (i : ℕ) (block ranges : List ℕ) → Ending → Item
   recovering : Ending → Item
@@ -135,7 +135,7 @@ module _ (F : List ℕ → List ℕ) (w₀ : World) where
   abbrev pub before : {xs : List Item} → Place xs → World
   before p = world_after F w₀ p.before
 
-  -- "if a finished recovery stands between a cut and the next attempt", write or wipe
+  -- "if a finished recovery stands between a cut and the next attempt", or the next write or wipe
   pub record Lawful (xs : List Item) : Type 0 where
     pub possible : (p : Place xs) → Possible F (before p).media p.item
     pub settled : (p : Place xs) → Writes p.item → Settled p.before
