@@ -241,10 +241,12 @@ module _ (a : Anchor) (card : List ℕ) (i : ℕ) (block ranges journal : List �
             p.long torn (record { long = l; stands = stands }),
       )
 
-  begins : ((recovered (cmac_of a.key) (raise a) card filled).answer ≡ Whole)
-      × ((recovered (cmac_of a.key) (raise a) card filled).card ≡ card)
-  begins =
-      idle (raise a) card filled (within-limits (raise a) card (raised-sound p.sound)) long
+  begins : (other : List ℕ) → length other ≡ length card
+      → ((recovered (cmac_of a.key) (raise a) other filled).answer ≡ Whole)
+      × ((recovered (cmac_of a.key) (raise a) other filled).card ≡ other)
+  begins other l =
+      let e = ap (λ (k : ℕ). first_failing (first_limits (raise a) k)) l ∙ within-limits (raise a) card (raised-sound p.sound) in
+      idle (raise a) other filled e long
       (λ f.
       let r = be-inj 8 a.root.0 t (omega (arith, p.sound.within, p.unspent)) p.unspent
       (sym f.root ∙ own-root n t i left p.inside p.sound.deep full (cmac_of a.key)) in

@@ -62,7 +62,7 @@ module _ (a : Anchor) (card journal : List ℕ) where
     pub uncounted : mended_by.counted ≡ []
 
 -- Of an accepted journalled write: wherever its ranges were torn, recovery with its journal and the final anchor leaves the new card, and
--- with the raised anchor it leaves the card as it is, while T has eight bytes.
+-- with the raised anchor it leaves any card as it is.
 pub record FinishRule (a : Anchor) (card : List ℕ) (i : ℕ) (block ranges journal : List ℕ) : Type 0 where
   pub finished : (wrote a card i block ranges journal).call.answer ≡ Whole →
       let o = wrote a card i block ranges journal in
@@ -71,5 +71,6 @@ pub record FinishRule (a : Anchor) (card : List ℕ) (i : ℕ) (block ranges jou
       × ((recovered (cmac_of a.key) o.call.anchor torn o.journal).card ≡ o.call.card)
   pub begun : (wrote a card i block ranges journal).call.answer ≡ Whole →
       let o = wrote a card i block ranges journal in
-      ((recovered (cmac_of a.key) o.raised card o.journal).answer ≡ Whole)
-      × ((recovered (cmac_of a.key) o.raised card o.journal).card ≡ card)
+      (other : List ℕ) → length other ≡ length card
+      → ((recovered (cmac_of a.key) o.raised other o.journal).answer ≡ Whole)
+      × ((recovered (cmac_of a.key) o.raised other o.journal).card ≡ other)
