@@ -19,5 +19,7 @@ pub mod Forged
 pub mod ListLaws
 pub mod Going
 pub mod Theorem
+pub mod OfCode
+pub mod Runs
 pub mod Computed
 pub mod ComputedLawful

@@ -4,3 +4,4 @@ pub mod Media
 pub mod World
 pub mod Claim
 pub mod NotEmpty
+pub mod Ran

@@ -269,7 +269,7 @@ module _ (key : List ℕ) where
 
   -- Each step of a history is one of the list: what it answered and left is the outcome that the list has at its place.
 
-  step-tells : (s : State) → s.store.anchor.key ≡ key → (r : Ran) → Meets s.store.anchor r
+  pub step-tells : (s : State) → s.store.anchor.key ≡ key → (r : Ran) → Meets s.store.anchor r
       → Tells key (result F s.store (step_of r)) (back_of s.store.anchor r)
   step-tells s e (call card c back) h =
       subst (λ (m : List ℕ). Tells m (outcome (cmac_of m) s.store.anchor card c) back) e h

@@ -16,12 +16,12 @@ use Rattle.journal.specs.Journalled.{journalled}
 use Rattle.replay.specs.Ran.{PlanRan, PutRan, AttemptRan, Ran, call, split, attempt, step_of, back_of, PutsMeet, Meets, Runs}
 
 -- puts from any anchor and plan
-record PutsRun (a : Anchor) (p : Plan) (xs : List PutStep) : Type 0 where
-  puts : List PutRan
-  ran : PutsMeet a p puts
-  are : map (λ (q : PutRan). q.step) puts ≡ xs
+pub record PutsRun (a : Anchor) (p : Plan) (xs : List PutStep) : Type 0 where
+  pub puts : List PutRan
+  pub ran : PutsMeet a p puts
+  pub are : map (λ (q : PutRan). q.step) puts ≡ xs
 
-puts-run : (xs : List PutStep) (a : Anchor) (p : Plan) → PutsRun a p xs
+pub puts-run : (xs : List PutStep) (a : Anchor) (p : Plan) → PutsRun a p xs
 puts-run [] a p = record { puts = []; ran = tt; are = refl }
 puts-run (x ∷ xs) a p =
     let o = put a p x.card x.node x.tag in
