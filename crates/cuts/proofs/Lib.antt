@@ -1,3 +1,4 @@
+-- The proofs, lowest first; `Theorem` has the statements under CMAC.
 pub mod Messages
 pub mod Mending
 pub mod CutLaws
