@@ -55,7 +55,7 @@ module _ (F : List ℕ → List ℕ) where
 abbrev pub unfit_at : ℕ → ℕ → Bool
 unfit_at t h = (nonce_limit 3 t h).fails
 
--- The same, computed. In each T is below H, as behind a write that was lost.
+-- The same, computed, mostly with T below H, as behind a write that was lost.
 pub record ReserveExamples : Type 0 where
   -- depth 3, T = 6 and H = 12: raised, H is 15, and then T is
   pub raised : raise (anchor [] 3 6 12) ≡ anchor [] 3 6 15
