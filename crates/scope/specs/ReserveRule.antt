@@ -1,5 +1,5 @@
--- Document 02, T-05, on the two nonces of the anchor, the root nonce T and the reserved one H: sentence by sentence, for every function that
--- makes tags of 16 bytes and for every input, and on examples. A definition that is bent together with its code no longer gives these.
+-- Document 02, T-05, on the two nonces of the anchor, the root nonce T and the reserved one H: sentence by sentence, for every input and
+-- every function that makes tags of 16 bytes, and on examples. A definition that is bent together with its code no longer gives these.
 use Rattle.std.specs.Prelude.{◌≡◌, List, [], ℕ, ◌+◌, ◌*◌, ◌-◌, ◌^◌, ◌<◌, ◌≤◌, Bool, true, false, length}
 use Rattle.std.proofs.Math.Option.{none}
 use Rattle.tree.specs.Numbers.{be8}
