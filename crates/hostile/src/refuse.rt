@@ -56,7 +56,8 @@ pub fn wipe(turn: &mut Turn, levels: Levels, card: &mut [u8]) -> Left {
     other.wipe(card)
 }
 
-// With a root nonce beside its own, which is no multiple of the depth. At depth 1, where every number is one, the reserved nonce is the last.
+// With a root nonce beside its own, which is no multiple of the depth. At depth 1, where every number is one, the reserved nonce is the
+// last.
 fn beside(levels: u64, anchor: Anchor) -> Anchor {
     if levels == 1 {
         Anchor {

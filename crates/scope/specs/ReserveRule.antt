@@ -1,5 +1,5 @@
--- Document 02, T-05, on the two nonces of the anchor, the root nonce T and the reserved one H: sentence by sentence, for every tag function
--- and every input, and on examples. A definition that is bent together with its code no longer gives these.
+-- Document 02, T-05, on the two nonces of the anchor, the root nonce T and the reserved one H: sentence by sentence, for every input and
+-- every function that makes tags of 16 bytes, and on examples. A definition that is bent together with its code no longer gives these.
 use Rattle.std.specs.Prelude.{◌≡◌, List, [], ℕ, ◌+◌, ◌*◌, ◌-◌, ◌^◌, ◌<◌, ◌≤◌, Bool, true, false, length}
 use Rattle.std.proofs.Math.Option.{none}
 use Rattle.tree.specs.Numbers.{be8}
@@ -55,15 +55,16 @@ module _ (F : List ℕ → List ℕ) where
 abbrev pub unfit_at : ℕ → ℕ → Bool
 unfit_at t h = (nonce_limit 3 t h).fails
 
--- The same, computed. In each T is below H, as behind a write that was lost.
+-- The same, computed, mostly with T below H, as behind a write that was lost.
 pub record ReserveExamples : Type 0 where
   -- depth 3, T = 6 and H = 12: raised, H is 15, and then T is
   pub raised : raise (anchor [] 3 6 12) ≡ anchor [] 3 6 15
   pub renewed : renew (anchor [] 3 6 12) ≡ anchor [] 3 15 15
-  -- block 5 is written: node 1 has 15, node 3 gets 14 and node 6 gets 13, and node 2 keeps its own; a read of before sees T
+  -- block 5 is written: node 1 has 15, node 3 gets 14 and node 6 gets 13, and node 2 keeps its own
   pub written : (card block : List ℕ) →
       let L = written_labels 3 6 12 card 5 block in
       (L 1 ≡ be8 15) × (L 3 ≡ be8 14) × (L 6 ≡ be8 13) × (L 13 ≡ block) × (L 2 ≡ label 3 card 2)
+  -- before it, the root's nonce is T
   pub sees : (card : List ℕ) → labels 3 6 card 1 ≡ be8 6
   -- 2: both multiples of 3, H not below T; and each of these broken alone
   pub fit : (unfit_at 6 6 ≡ false) × (unfit_at 6 12 ≡ false)

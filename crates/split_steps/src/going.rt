@@ -24,8 +24,8 @@ pub struct Going {
 }
 
 impl Going {
-    // Plans a write of a block whose bytes are drawn, with so many bytes of the range buffer lent, and goes on from the anchor that the plan
-    // answers.
+    // Plans a write of a block whose bytes are drawn, with so many bytes of the range buffer lent, and goes on from the anchor that it
+    // hands out.
     pub fn begin(turn: &mut Turn, target: Target, card: &mut [u8], lent: usize) -> Going
         requires { lent ≤ 101 }
     {
