@@ -1,6 +1,6 @@
 -- What document 02 says of a put.
 use mathlib.Core.Path.{◌≡◌, refl, sym, ap, subst, ◌∙◌}
-use mathlib.Core.Bool.{Bool, true, cond}
+use mathlib.Core.Bool.{Bool, true, false, cond}
 use mathlib.Core.List.{List}
 use mathlib.Core.Logic.{⊎_elim}
 use Prim.Native.Nat.{ℕ, ◌+◌, ◌*◌, ◌%◌, ◌^◌, ◌<◌}
@@ -8,7 +8,7 @@ use Rattle.words.proofs.Cases.{equal_or_not}
 use Rattle.tree.specs.Calls.{rooted}
 use Rattle.tree.specs.declared.Anchor.{Anchor}
 use Rattle.tree.specs.Answer.{Answer}
-use Rattle.tree.specs.Answer.{Whole}
+use Rattle.tree.specs.Answer.{Whole, Wrong, Refused}
 use Rattle.tree.specs.declared.BlockIndex.{BlockIndex}
 use Rattle.tree.proofs.LimitLaws.{first-passed}
 use Rattle.plan.specs.Places.{fill, full}
@@ -21,6 +21,20 @@ use Rattle.plan.proofs.WaitLaws.{waits-place, awaited-waits, waits-awaited}
 use Rattle.plan.proofs.PlaceLaws.{none-awaited, awaited-not-full, waits-not}
 use Rattle.plan.proofs.PutLaws.{put_in, put-accept, put_first, put-nine, put-answer, put-unchanged, put-tag, put-labels}
 use Rattle.plan.proofs.PutLaws.{put-others}
+
+-- a put keeps the reserved nonce
+put-reserved : (a : Anchor) (p : Plan) (card : List ℕ) (u : ℕ) (x : List ℕ) → (put a p card u x).anchor.reserved ≡ a.reserved
+unfolding put
+put-reserved a p card u x = go (put_answer a p card u)
+  where
+    last : (b : Bool) → (cond b (rooted a p.root.0) a).reserved ≡ a.reserved
+    last true = refl
+    last false = refl
+
+    go : (o : Answer) → (put_settled o a p card u x).anchor.reserved ≡ a.reserved
+    go Whole = last (full a.depth (fill a.depth p u))
+    go (Wrong w) = refl
+    go (Refused r) = refl
 
 module _ (a : Anchor) (p : Plan) (card : List ℕ) (u : ℕ) (x : List ℕ) where
   done-is : put_answer a p card u ≡ Whole → put a p card u x ≡ put_done a p card u x
@@ -119,5 +133,6 @@ module _ (a : Anchor) (p : Plan) (card : List ℕ) (u : ℕ) (x : List ℕ) wher
         refused = λ d.
             let k = put-unchanged a p card u x (λ w. d (put-answer a p card u x ∙ w)) in
             (k.anchor-same, k.plan-same, k.card-same);
+        reserves-nothing = put-reserved a p card u x;
         accepted = λ w. taken-so (sym (put-answer a p card u x) ∙ w);
       }

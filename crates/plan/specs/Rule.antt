@@ -112,4 +112,6 @@ module _ (a : Anchor) (p : Plan) (card : List ℕ) (u : ℕ) (x : List ℕ) wher
     -- "nothing changes"
     pub refused : ((put a p card u x).answer ≡ Whole → ⊥)
         → ((put a p card u x).anchor ≡ a) × ((put a p card u x).plan ≡ p) × ((put a p card u x).card ≡ card)
+    -- the reserved nonce stays, whatever the plan says
+    pub reserves-nothing : (put a p card u x).anchor.reserved ≡ a.reserved
     pub accepted : (put a p card u x).answer ≡ Whole → Taken (put a p card u x)

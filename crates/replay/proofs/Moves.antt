@@ -2,7 +2,7 @@
 use mathlib.Core.Path.{◌≡◌, refl, sym, ap, ap₂, subst, ◌∙◌}
 use mathlib.Core.Bool.{Bool, true, false, cond, ◌&&◌}
 use mathlib.Core.Logic.{◌⊎◌, inl, inr, ⊎_elim}
-use mathlib.Core.Option.{none}
+use mathlib.Core.Option.{Option, none, some}
 use mathlib.Core.List.Memᴰ
 use mathlib.Core.List.{List, [], ◌∷◌, ◌++◌, map, Memᴰ}
 use Prim.Native.Nat.{ℕ, ◌+◌, ◌^◌, ◌<◌}
@@ -10,13 +10,14 @@ use native.Mathlib.Omega.{arith}
 use lib.ListN.{length, set, replicate, length-set, length-replicate}
 use Rattle.tree.specs.Nodes.{all_nodes}
 use Rattle.tree.specs.Labels.{message, labels}
-use Rattle.tree.specs.Card.{blanked, written}
+use Rattle.tree.specs.Card.{blanked, written, first_wrong}
 use Rattle.tree.specs.Limits.{first_failing}
 use Rattle.tree.specs.Answer.{is_whole}
 use Rattle.tree.specs.Calls
-use Rattle.tree.specs.Calls.{Call, read, write, check, wipe, renews, tags, tagged, raise, renew, Outcome, answer_of, done, settled, outcome}
+use Rattle.tree.specs.Calls.{Call, read, write, check, wipe, renews, limits, checks, verdict, tags, tagged, raise, renew, Outcome, answer_of, done, settled, outcome}
 use Rattle.tree.specs.declared.Anchor.{Anchor}
 use Rattle.tree.specs.declared.Node.{Node}
+use Rattle.tree.specs.declared.Refusal.{Refusal}
 use Rattle.tree.specs.Answer.{Answer}
 use Rattle.tree.specs.Answer.{Whole, Wrong, Refused}
 use Rattle.tree.proofs.LimitLaws.{Passes, Writes, passed}
@@ -28,9 +29,10 @@ use Rattle.plan.specs.Split.{Given, Planned, no_plan, planned}
 use Rattle.plan.specs.Puts.{PutStep, begun, after_all_puts, EachPut, PutUntouched}
 use Rattle.plan.proofs.PlanLaws.{plan-answer, planned-done, planned-refused, given-tagged, tagged-given}
 use Rattle.plan.proofs.OrderLaws.{filled-anchor, unfilled-anchor, filled-card}
-use Rattle.journal.specs.Journal.{journal_message}
-use Rattle.journal.specs.Journalled.{Journalled, journalled_answer, journalled_done, journalled_refused, journalled}
+use Rattle.journal.specs.Journal.{journal_message, message_of}
+use Rattle.journal.specs.Journalled.{Journalled, journalled_limits, journalled_answer, journalled_done, journalled_refused, journalled}
 use Rattle.journal.proofs.FillLaws.{message-size}
+use Rattle.journal.proofs.JournalLaws.{own-message}
 use Rattle.journal.proofs.JournalledLaws.{journalled-answer, journalled-done, journalled-refused, journalled-passed, write-whole, write-wrong}
 use Rattle.journal.proofs.JournalledLaws.{journalled-accept}
 use Rattle.replay.specs.Array
@@ -83,6 +85,28 @@ module _ (F : List ℕ → List ℕ) (s : Store) where
   step-accept (attempt card i block ranges journal fate) e w =
       journalled-answer F s.anchor card i block ranges journal
       ∙ journalled-accept F s.anchor card i block ranges journal w (journalled-passed F s.anchor card i block ranges journal e).1
+
+  -- and it is refused for the first of them that fails
+  call-limited : (card : List ℕ) (c : Call) (r : Refusal) → first_failing (limits s.anchor card c) ≡ some r
+      → answer_of F s.anchor card c ≡ Refused r
+  unfolding answer_of
+  call-limited card c r e = ap (λ (l : Option Refusal). verdict l (first_wrong F s.anchor.depth s.anchor.root.0 card (checks s.anchor.depth c))) e
+
+  attempt-limited : (card : List ℕ) (i : ℕ) (block ranges journal : List ℕ) (r : Refusal)
+      → first_failing (journalled_limits s.anchor (length card) i (length block) (length ranges) (length journal)) ≡ some r
+      → journalled_answer F s.anchor card i block ranges journal ≡ Refused r
+  unfolding journalled_answer
+  attempt-limited card i block ranges journal r e =
+      ap (λ (l : Option Refusal). verdict l
+      (first_wrong F s.anchor.depth s.anchor.root.0 card (checks s.anchor.depth (write i block ranges)))) e
+
+  pub step-limited : (x : Step) (r : Refusal) → first_failing (limits_of s.anchor x) ≡ some r → (result F s x).answer ≡ Refused r
+  step-limited (call card c) r e = outcome-answer F s.anchor card c ∙ call-limited card c r e
+  step-limited (split card i block ranges puts) r e =
+      split-answer (planned F s.anchor card i block ranges) puts ∙ plan-answer F s.anchor card i block ranges
+      ∙ call-limited card (write i block ranges) r e
+  step-limited (attempt card i block ranges journal fate) r e =
+      journalled-answer F s.anchor card i block ranges journal ∙ attempt-limited card i block ranges journal r e
 
   -- What stands is accepted
 
@@ -242,6 +266,12 @@ module _ (F : List ℕ → List ℕ) (s : State) where
       ∙ ap (λ (b : Bool). moves s.store c b (done F a card c)) (sym (ap (λ (o : Outcome). is_whole o.answer) d)
       ∙ ap is_whole (outcome-answer F a card c ∙ e)))
       refl s.tagged
+
+-- each message that a plan gave is tagged, whatever its puts were
+pub split-tagged : (F : List ℕ → List ℕ) (s : State) (card : List ℕ) (i : ℕ) (block ranges : List ℕ) (puts : List PutStep) (m : Given)
+    → Memᴰ m (planned F s.store.anchor card i block ranges).messages → Memᴰ m.message (next F s (split card i block ranges puts)).tagged
+unfolding next
+split-tagged F s card i block ranges puts m h = Memᴰ.append_left s.tagged (Memᴰ.map (λ (g : Given). g.message) h)
 
 -- a write makes one block anew, leaves a card and tags messages,
 abbrev pub wrote : State → ℕ → List ℕ → List ℕ → List (List ℕ) → State
@@ -532,6 +562,18 @@ module _ (F : List ℕ → List ℕ) (F16 : (m : List ℕ) → length (F m) ≡ 
           ∙ ap (λ (k : Bool). cond k
           (messages (renew b) left_card (Calls.tags b.depth c) ++ (entry ∷ [])) []) h
           ∙ ap (λ (l : List (List ℕ)). l ++ (entry ∷ [])) (done-tags F F16 b card c ok)
+
+      -- the message is the one of the journal that it fills
+      pub attempt-tags : (fate : Fate) → heard fate ≡ true
+          → new_tags F s.store (attempt card i block ranges journal fate)
+          ≡ tagged s.store.anchor card (write i block ranges)
+          ++ (message_of s.store.anchor.depth (journalled F s.store.anchor card i block ranges journal).journal ∷ [])
+      attempt-tags fate h =
+          new-made fate h
+          ∙ ap (λ (m : List ℕ). tagged b card c ++ (m ∷ []))
+          (sym (ap (λ (q : Journalled). message_of b.depth q.journal) journal-done
+          ∙ own-message b.depth (b.reserved.0 + b.depth) i left_card inside ok.sound.deep
+          (written-length F F16 b.depth ok.sound.deep b.root.0 b.reserved.0 card i block ok.sound.full inside ok.long) F))
 
       attempt-next : (fate : Fate) → heard fate ≡ true
           → next F s (attempt card i block ranges journal fate) ≡ record {

@@ -19,7 +19,8 @@ use Rattle.journal.proofs.JournalledLaws.{journalled-answer, journalled-done, wr
 use Rattle.replay.specs.Run.{Fate, stood, Step, call, split, attempt, State, fills, finished, result, next}
 use Rattle.replay.specs.Claim.{Complete}
 use Rattle.replay.specs.Tagged.{CallTags, JournalTags, StepTags}
-use Rattle.replay.specs.OneWrite.{Alike, OneWrite, LostWrite, StoodWrite, OneAttempt}
+use Rattle.replay.specs.OneWrite.{Alike, OneWrite, LostWrite, LostPlan, StoodWrite, OneAttempt}
+use Rattle.replay.proofs.Moves.{split-tagged, attempt-tags}
 use Rattle.replay.proofs.Moves.{whole-or-not, step-refused, Wrote, Lost, call-wrote, call-left, split-wrote, split-leaves, split-lost}
 use Rattle.replay.proofs.Moves.{split-left, attempt-left}
 use Rattle.replay.proofs.Moves.{split-answer}
@@ -159,9 +160,12 @@ module _ (F : List ℕ → List ℕ) (F16 : (m : List ℕ) → length (F m) ≡ 
 
       -- and a plan that they leave unfinished is lost
       pub lost-plan : (planned F s.store.anchor card i block ranges).call.answer ≡ Whole
-          → fills (planned F s.store.anchor card i block ranges) puts ≡ false → LostWrite F s (split card i block ranges puts)
+          → fills (planned F s.store.anchor card i block ranges) puts ≡ false → LostPlan F s card i block ranges puts
       lost-plan v f =
-          lost-leaves (split-lost F F16 s card i block ranges (sym (plan-answer F a card i block ranges) ∙ v) puts f)
+          record {
+            leaves = lost-leaves (split-lost F F16 s card i block ranges (sym (plan-answer F a card i block ranges) ∙ v) puts f);
+            gave-tagged = λ m h. split-tagged F s card i block ranges puts m h;
+          }
 
     -- An attempt
 
@@ -200,6 +204,9 @@ module _ (F : List ℕ → List ℕ) (F16 : (m : List ℕ) → length (F m) ≡ 
           record {
             refused = λ fate d. attempt-refused F s card i block ranges journal fate d;
             unheard-still = attempt-unheard F s card i block ranges journal;
+            tags = λ fate h v.
+                let u = sym (journalled-answer F a card i block ranges journal) ∙ v in
+                attempt-tags F F16 s card i block ranges (write-whole F a card i block ranges journal u) journal u fate h;
             lost-leaves = λ v.
                 let u = sym (journalled-answer F a card i block ranges journal) ∙ v in
                 lost-leaves (attempt-lost F F16 s card i block ranges (write-whole F a card i block ranges journal u) journal u);

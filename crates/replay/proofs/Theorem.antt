@@ -25,7 +25,7 @@ use Rattle.replay.specs.Places.{Place}
 use Rattle.plan.specs.Split.{planned}
 use Rattle.replay.specs.Run.{Step, call, split, call_of, State, fills, start, new_tags, next, after}
 use Rattle.replay.specs.Claim.{Complete, Accepted, AcceptedWipe, known, AllComplete, Demand3}
-use Rattle.replay.specs.OneWrite.{OneWrite, LostWrite, OneAttempt}
+use Rattle.replay.specs.OneWrite.{OneWrite, LostPlan, OneAttempt}
 use Rattle.replay.specs.Tagged.{ByCall, Unforged, Afresh}
 use Rattle.replay.proofs.Safe.{Backs, blank-backs}
 use Rattle.replay.proofs.PlaceLaws.{earlier, farther}
@@ -33,6 +33,7 @@ use Rattle.replay.proofs.Along.{after-append}
 use Rattle.replay.proofs.NewTags.{new-tags}
 use Rattle.replay.specs.Nonces.{NonceRule}
 use Rattle.replay.proofs.Anchors.{after-key, after-reserved, Sound, after-sound, after-root}
+use Rattle.replay.proofs.Moves.{step-limited}
 use Rattle.replay.proofs.OneWrite.{one-write, lost-plan, one-attempt}
 use Rattle.replay.proofs.Steady.{safe-steady, steady-after}
 use Rattle.replay.proofs.Agreement.{agreement}
@@ -166,6 +167,7 @@ module _ (F : List ℕ → List ℕ) (F16 : (m : List ℕ) → length (F m) ≡ 
           checked = λ p f u. checked-here F F16 begun good_start complete p f u;
           agrees = λ p f u. agrees-here F F16 begun good_start complete p f u;
           accepts = λ p f u l. accepts F F16 begun good_start complete p f u l;
+          limited = λ s x. step-limited F s.store x;
           unforged = none-forged F F16 xs begun complete good_start;
           counted = counted-any;
           agreed = honest-agrees F F16 xs begun complete good_start;
@@ -227,7 +229,7 @@ module _ (key : List ℕ) (n : ℕ) (deep : 1 ≤ n) (shallow : n ≤ 16) (card 
     pub lost-plan-there : (puts : List PutStep) →
         let o = planned (cmac_of key) (known (cmac_of key) (start (cmac_of key) key n card) p).store.anchor other i block ranges in
         o.call.answer ≡ Whole → fills o puts ≡ false
-        → LostWrite (cmac_of key) (known (cmac_of key) (start (cmac_of key) key n card) p) (split other i block ranges puts)
+        → LostPlan (cmac_of key) (known (cmac_of key) (start (cmac_of key) key n card) p) other i block ranges puts
     lost-plan-there puts = lost-plan (cmac_of key) (length-cmac key) s other i block ranges puts
 
     pub one-attempt-there : (journal : List ℕ)

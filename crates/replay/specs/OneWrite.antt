@@ -1,12 +1,14 @@
 -- A plan whose puts fill it is one write for demand 3, and so is an attempt that stood; a lost one tags its messages and moves nothing but
 -- the reserved nonce.
-use Rattle.std.specs.Prelude.{ℕ, ◌≡◌, ◌⊎◌}
-use mathlib.Core.List.{List, Memᴰ}
-use Rattle.tree.specs.Calls.{write, raise}
+use Rattle.std.specs.Prelude.{ℕ, ◌≡◌, true, ◌⊎◌}
+use mathlib.Core.List.{List, [], ◌∷◌, ◌++◌, Memᴰ}
+use Rattle.tree.specs.Calls.{write, tagged, raise}
+use Rattle.journal.specs.Journal.{message_of}
+use Rattle.journal.specs.Journalled.{journalled}
 use Rattle.tree.specs.Answer.{Whole}
-use Rattle.plan.specs.Split.{planned}
+use Rattle.plan.specs.Split.{Given, planned}
 use Rattle.plan.specs.Puts.{PutStep, begun, after_all_puts, EachPut, PutUntouched}
-use Rattle.replay.specs.Run.{Fate, unheard, lost, stood, Step, call, split, attempt, State, result, next}
+use Rattle.replay.specs.Run.{Fate, unheard, lost, stood, Step, call, split, attempt, State, heard, result, new_tags, next}
 use Rattle.replay.specs.Tagged.{StepTags, JournalTags}
 
 -- Two steps answer and list the same, and move what is known alike, but for the card and the messages tagged: the anchor and the array.
@@ -39,6 +41,12 @@ pub record LostWrite (F : List ℕ → List ℕ) (s : State) (x : Step) : Type 0
   pub tagged : (m : List ℕ) → Memᴰ m (next F s x).tagged → StepTags F s.store.anchor x m ⊎ Memᴰ m s.tagged
   pub all-tagged : (m : List ℕ) → StepTags F s.store.anchor x m ⊎ Memᴰ m s.tagged → Memᴰ m (next F s x).tagged
 
+-- A plan that its puts do not fill leaves that, and each message that it gave is tagged.
+pub record LostPlan (F : List ℕ → List ℕ) (s : State) (card : List ℕ) (i : ℕ) (block ranges : List ℕ) (puts : List PutStep) : Type 0 where
+  pub leaves : LostWrite F s (split card i block ranges puts)
+  pub gave-tagged : (m : Given) → Memᴰ m (planned F s.store.anchor card i block ranges).messages
+      → Memᴰ m.message (next F s (split card i block ranges puts)).tagged
+
 -- An accepted attempt that stood is the write, with the write's card, and its journal's message is tagged besides.
 pub record StoodWrite (F : List ℕ → List ℕ) (s : State) (card : List ℕ) (i : ℕ) (block ranges journal : List ℕ) : Type 0 where
   pub alike : Alike F s (attempt card i block ranges journal stood) (call card (write i block ranges))
@@ -54,6 +62,11 @@ pub record OneAttempt (F : List ℕ → List ℕ) (s : State) (card : List ℕ) 
   pub refused : (fate : Fate) → ((result F s.store (attempt card i block ranges journal fate)).answer ≡ Whole → ⊥)
       → next F s (attempt card i block ranges journal fate) ≡ s
   pub unheard-still : next F s (attempt card i block ranges journal unheard) ≡ s
+  -- lost or not, it tags what the write counts as new tags, in that order, and then the message of the journal that it fills
+  pub tags : (fate : Fate) → heard fate ≡ true → (result F s.store (attempt card i block ranges journal fate)).answer ≡ Whole
+      → new_tags F s.store (attempt card i block ranges journal fate)
+      ≡ tagged s.store.anchor card (write i block ranges)
+      ++ (message_of s.store.anchor.depth (journalled F s.store.anchor card i block ranges journal).journal ∷ [])
   pub lost-leaves : (result F s.store (attempt card i block ranges journal lost)).answer ≡ Whole
       → LostWrite F s (attempt card i block ranges journal lost)
   pub stood-write : (result F s.store (attempt card i block ranges journal stood)).answer ≡ Whole

@@ -1,7 +1,7 @@
 -- What is tagged, both ways, so that a forgery is no empty word: a card that nobody touched shows tagged messages alone.
 use Rattle.std.specs.Prelude.{ℕ, ◌+◌, ◌/◌, ◌^◌, ◌<◌, ◌≡◌, true, ◌⊎◌, length}
 use mathlib.Core.List.{List, [], ◌∷◌, ◌++◌, Memᴰ}
-use Rattle.std.proofs.Math.Option.{none}
+use Rattle.std.proofs.Math.Option.{none, some}
 use Rattle.tree.specs.Layout.{IsNode, card_length}
 use Rattle.tree.specs.Nodes.{path_node}
 use Rattle.tree.specs.Labels.{message, blank_labels, written_labels}
@@ -10,7 +10,8 @@ use Rattle.tree.specs.Calls.{Call, read, write, check, wipe, is_write, tagged}
 use Rattle.tree.specs.Card.{written}
 use Rattle.journal.specs.Journal.{journal_message}
 use Rattle.tree.specs.declared.Anchor.{Anchor}
-use Rattle.tree.specs.Answer.{Whole}
+use Rattle.tree.specs.declared.Refusal.{Refusal}
+use Rattle.tree.specs.Answer.{Whole, Refused}
 use Rattle.replay.specs.Places.{Place}
 use Rattle.replay.specs.Array.{zeroed}
 use Rattle.plan.specs.Places.{plan_nodes}
@@ -90,6 +91,9 @@ module _ (F : List ℕ → List ℕ) (s₀ : State) where
     pub accepts : (p : Place xs) → Faithful F s₀ p.before → GivenLeft (known F s₀ p).store p.item
         → first_failing (limits_of (known F s₀ p).store.anchor p.item) ≡ none
         → Accepted F (known F s₀ p).store p.item
+    -- where one fails, any step is refused for the first that does, whatever was before
+    pub limited : (s : State) (x : Step) (r : Refusal) → first_failing (limits_of s.store.anchor x) ≡ some r
+        → (result F s.store x).answer ≡ Refused r
     -- where every call that stands, but a wipe, had an untouched card there is no forgery, and the agreement holds outright
     pub unforged : Honest xs → Forgery F s₀ xs → ⊥
     pub agreed : Honest xs → Agreement F s₀ xs
