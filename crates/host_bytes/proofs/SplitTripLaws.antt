@@ -29,7 +29,7 @@ use Rattle.host_bytes.specs.Split.{plan_bytes, plan_of, bytes_of, tag_bytes, Hos
 use Rattle.host_bytes.specs.Split.{HostPut, root_moved, hosted_put, host_put, HostsPut}
 use Rattle.host_bytes.specs.RoundTrip.{Stands, StandsPlan, SplitTrip}
 use Rattle.host_bytes.proofs.AnchorLaws.{put-stands, reserve-stands, code-whole, whole_code, not-whole, outcome-leaves}
-use Rattle.host_bytes.proofs.SplitLaws.{lengths, host-plan, host-put}
+use Rattle.host_bytes.proofs.SplitLaws.{lengths, plan-unmeasured, host-plan, host-put}
 use Rattle.host_bytes.proofs.PlanBytesLaws.{bytes-stand, filled-stand}
 
 -- The plan
@@ -103,13 +103,23 @@ module _ (s card b : List ℕ) (i : ℕ) (block ranges buffer : List ℕ) where
         subst (λ (h : HostPlan). HostsPlan h code e made left filled gave)
         (host-plan s card i block ranges b buffer (l, m, k)) g
 
-    pub plan-stored : HostsPlan (host_plan s card i block ranges b buffer) code e made left filled gave → length s ≡ anchor_bytes → code ≡ 0
+    -- with an anchor of another length none is accepted
+    plan-long : HostsPlan (host_plan s card i block ranges b buffer) code e made left filled gave → code ≡ 0 → length s ≡ anchor_bytes
+    plan-long g zero =
+        ⊎_elim (λ (p : length s ≡ anchor_bytes). p)
+        (λ (d : length s ≡ anchor_bytes → ⊥).
+        let z : ◌≡◌ {A = ℕ} 0 refused_length = sym zero ∙ g.coded ∙ sym (plan-unmeasured s card i block ranges b buffer (λ l. d l.0)).coded in
+        absurd (omega arith))
+        (equal_or_not (length s) anchor_bytes)
+
+    pub plan-stored : HostsPlan (host_plan s card i block ranges b buffer) code e made left filled gave → code ≡ 0
         → Stands e (planned (cmac_of (anchor_of s).key) (anchor_of s) card i block ranges).call.anchor
         × StandsPlan made (planned (cmac_of (anchor_of s).key) (anchor_of s) card i block ranges).plan
-    plan-stored =
+    plan-stored h zero =
         plan-cases
         (λ h. HostsPlan h code e made left filled gave → length s ≡ anchor_bytes → code ≡ 0 → Stands e o.call.anchor × StandsPlan made o.plan)
         plan-trip (λ g long zero. let z : ◌≡◌ {A = ℕ} 0 refused_length = sym zero ∙ g.coded in absurd (omega arith))
+        h (plan-long h zero) zero
 
     pub plan-refused : HostsPlan (host_plan s card i block ranges b buffer) code e made left filled gave → (code ≡ 0 → ⊥)
         → (e ≡ s) × (made ≡ b) × (left ≡ card) × (filled ≡ ranges) × (gave ≡ buffer)
@@ -234,8 +244,8 @@ module _ (s card b : List ℕ) (u : ℕ) (tag : List ℕ) (code : ℕ) (e made l
 pub split-trip : (s card b : List ℕ) → SplitTrip s card b
 split-trip s card b =
     record {
-      plan-stored = λ long i block ranges buffer e made left filled gave g.
-          plan-stored s card b i block ranges buffer 0 e made left filled gave g long refl;
+      plan-stored = λ i block ranges buffer e made left filled gave g.
+          plan-stored s card b i block ranges buffer 0 e made left filled gave g refl;
       put-stored = λ long p stands u tag t16 code e made left g. put-stored s card b long p stands u tag t16 code e made left g;
       plan-told = λ long plan-long i block ranges buffer room code e made left filled gave g.
           let t = plan-told s card b i block ranges buffer code e made left filled gave long plan-long room g in

@@ -45,7 +45,7 @@ pub record StandsPlan (bytes : List ℕ) (p : Plan) : Type 0 where
 -- Of pat_plan and pat_put_tag that were given s as the anchor, a card, and b as the plan.
 pub record SplitTrip (s card b : List ℕ) : Type 0 where
   -- an accepted plan leaves bytes that stand for the anchor and the plan that it hands out, and so does any put
-  pub plan-stored : length s ≡ anchor_bytes → (i : ℕ) (block ranges buffer e made left filled gave : List ℕ)
+  pub plan-stored : (i : ℕ) (block ranges buffer e made left filled gave : List ℕ)
       → HostsPlan (host_plan s card i block ranges b buffer) 0 e made left filled gave →
       let o = planned (cmac_of (anchor_of s).key) (anchor_of s) card i block ranges in
       Stands e o.call.anchor × StandsPlan made o.plan

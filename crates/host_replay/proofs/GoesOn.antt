@@ -142,6 +142,9 @@ plain-goes-on left =
       split-goes-on = split-goes-on;
       turns-run = turns-run;
       attempt-like-write = attempt-like-write;
+      fits-call = λ form card c. tt;
+      fits-split = λ card i block ranges puts h. h;
+      fits-attempt = λ card i block ranges journal fate. tt;
       plan-meets = λ s p room buffer k. record { plan-room = room; message-room = buffer; says = k };
       put-meets = λ s b q long k. (long, k, tt);
       attempt-meets = λ s t long k. record { raised-room = long; says = k };

@@ -208,7 +208,7 @@ module _ (a : Anchor) (s : List ℕ) (stands : Stands s a) (p : PlanCalled) (qs 
   plan-stands zero =
       subst (λ (c : Anchor). Stands p.anchor (plan_on c p).call.anchor × StandsPlan p.plan (plan_on c p).plan) stands.is
       (plan-stored s p.card p.room p.index p.block p.ranges p.buffer p.code p.anchor p.plan p.left p.lent p.messages
-      m.0.says stands.long zero)
+      m.0.says zero)
 
   accepted-code : is_whole o.call.answer ≡ true → p.code ≡ 0
   accepted-code e = eqb-true p.code 0 (code_is o.call.answer p.code plan-codes.coded ∙ e)

@@ -61,7 +61,7 @@ messages a card us = map (message (labels a.depth a.root.0 card)) us
 
 -- what is known of a store
 pub record Store : Type 0 where
-  -- as the last call returned it
+  -- as the chip has it
   pub anchor : Anchor
   pub array : Array
   -- the card as the format, or the last write or wipe that stands, left it; a split write's is the one after its last accepted put, and an
