@@ -214,6 +214,7 @@ module _ (F : List ℕ → List ℕ) (F16 : (m : List ℕ) → length (F m) ≡ 
         shown = shown;
         cuts = λ f w e. of-steps (shows-cut f w e);
         fates = fates;
+        nothing-out = of-steps (shows-cut unheard m refl);
         any-journal = λ journal long.
             of-steps (shows-cut lost (record { anchor = raise a; journal = journal; card = m.card }) (refl, long, refl));
         any-ranges = λ new.

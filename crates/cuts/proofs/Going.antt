@@ -2,6 +2,7 @@
 use mathlib.Core.Path.{◌≡◌, refl, sym, ap, subst, ◌∙◌}
 use mathlib.Core.Bool.{true, false}
 use mathlib.Core.List.{List, [], ◌∷◌, ◌++◌, append_assoc, Memᴰ}
+use mathlib.Core.Logic.{◌⊎◌}
 use Prim.Native.Nat.{ℕ}
 use lib.ListN.{length}
 use Rattle.tree.specs.Answer.{Whole}
@@ -20,9 +21,9 @@ use Rattle.replay.proofs.Moves.{both_true, split-answer}
 use Rattle.replay.proofs.Unforged.{goes_on}
 use Rattle.cuts.specs.Media.{Media}
 use Rattle.cuts.specs.World.{whole, cut, Item, attempting, recovering, calling, splitting, World, world_after, WasCut, Writes, Finished}
-use Rattle.cuts.specs.World.{Settled}
+use Rattle.cuts.specs.World.{tried, Settled}
 use Rattle.cuts.specs.World.{GoesThrough, Possible, Lawful}
-use Rattle.cuts.specs.NotEmpty.{GoesOn}
+use Rattle.cuts.specs.NotEmpty.{WrongTag, GoesOn}
 use Rattle.cuts.proofs.Recovers.{finished-later}
 
 -- What is asked of the first item and those behind it, and of a later one and those behind that, is asked at every place.
@@ -150,6 +151,13 @@ module _ (F : List ℕ → List ℕ) (F16 : (m : List ℕ) → length (F m) ≡ 
       let full = (both_true F s.store _ _ (k.2 (split-answer (planned F m.anchor m.card i block ranges) puts ∙ w))).1 in
       record { right = k.0 w full; untouched = k.1.1; filled = full }
 
+  -- what is asked of a journal that a cut attempt left
+  abbrev TornIn : ℕ → List Item → Item → Type 0
+  TornIn n before x =
+      (i : ℕ) (block ranges : List ℕ) (v : Media) → x ≡ attempting i block ranges (cut v) →
+      let m = (world_after F w₀ before).media in
+      WrongTag F w₀ n v.journal ⊎ ((v.journal ≡ m.journal) ⊎ (v.journal ≡ (tried F m i block ranges).journal))
+
   looks : (c : Call) → renews c ≡ false → renews c ≡ true → ⊥
   looks c e f = let z : false ≡ true = sym e ∙ f in absurd cc
 
@@ -180,4 +188,6 @@ module _ (F : List ℕ → List ℕ) (F16 : (m : List ℕ) → length (F m) ≡ 
         attempt-waits = λ xs i block ranges e l. l.settled (last xs (attempting i block ranges e)) tt;
         call-waits = λ xs c r l. l.settled (last xs (calling c)) r;
         split-waits = λ xs i block ranges puts l. l.settled (last xs (splitting i block ranges puts)) tt;
+        own-none = λ n wrong. record { first = wrong; torn = λ p. absurd (no_place p) };
+        own-more = λ n xs x own h. record { first = own.first; torn = at_more (TornIn n) xs x own.torn h };
       }

@@ -1,12 +1,14 @@
 -- What is claimed of a list, from what holds at each item of it.
 use mathlib.Core.Path.{◌≡◌, refl, sym, ap, subst, ◌∙◌}
-use mathlib.Core.Bool.{false}
+use mathlib.Core.Bool.{true, false}
 use mathlib.Core.List.{List, [], ◌∷◌}
-use mathlib.Core.Logic.{inl, inr, ⊎_elim}
+use mathlib.Core.Logic.{◌⊎◌, inl, inr, ⊎_elim}
 use Prim.Native.Nat.{ℕ, ◌+◌}
 use lib.ListN.{length, set}
 use Rattle.tree.specs.Answer.{Whole}
+use Rattle.tree.specs.Calls.{Call, renews}
 use Rattle.tree.specs.declared.Anchor.{Anchor}
+use Rattle.plan.proofs.ListLaws.{truth}
 use Rattle.replay.specs.Array.{Array}
 use Rattle.replay.specs.Places.{Place, Behind}
 use Rattle.replay.specs.Run.{State, after}
@@ -14,22 +16,28 @@ use Rattle.replay.proofs.PlaceLaws.{first, later}
 use Rattle.cuts.specs.Media.{Media}
 use Rattle.cuts.specs.World.{Ending, whole, Item, attempting, recovering, calling, splitting, World, tried, media_after, next_world}
 use Rattle.cuts.specs.World.{world_after}
-use Rattle.cuts.specs.World.{Settled, Possible, Lawful}
-use Rattle.cuts.specs.Claim.{IsRecovery, Shows, Restores, Kept, Forgery, Recovers}
+use Rattle.cuts.specs.World.{Writes, Settled, Possible, Lawful}
+use Rattle.cuts.specs.Claim.{Shows, Restores, Kept, Forgery, Recovers}
 use Rattle.cuts.proofs.Attempts.{Inv}
+use Rattle.cuts.proofs.Others.{looks-still}
 use Rattle.cuts.proofs.Recovers.{all_open, settled-closed, Here, HereFrom, here-or-forged}
 use Rattle.cuts.proofs.Chip.{Chip, world-append, AllPossible, chip-next, chip-at}
 use Rattle.cuts.proofs.IsList.{by-root}
 
 module _ (F : List ℕ → List ℕ) (F16 : (m : List ℕ) → length (F m) ≡ 16) where
-  -- recoveries move nothing that is known
-  recoveries-still : (xs : List Item) (w : World) → ((r : Place xs) → IsRecovery r.item) → (world_after F w xs).known ≡ w.known
+  looks-only : (c : Call) → (renews c ≡ true → ⊥) → renews c ≡ false
+  looks-only c d = ⊎_elim (λ (e : renews c ≡ true). absurd (d e)) (λ (e : renews c ≡ false). e) (truth (renews c))
+
+  -- what does not write moves nothing that is known
+  between-still : (xs : List Item) (w : World) → ((r : Place xs) → Writes r.item → ⊥) → (world_after F w xs).known ≡ w.known
   unfolding world_after next_world after
-  recoveries-still [] w all = refl
-  recoveries-still (recovering e ∷ xs) w all = recoveries-still xs (next_world F w (recovering e)) (λ r. all (later (recovering e) r))
-  recoveries-still (attempting i block ranges e ∷ xs) w all = absurd (all (first (attempting i block ranges e) xs))
-  recoveries-still (calling c ∷ xs) w all = absurd (all (first (calling c) xs))
-  recoveries-still (splitting i block ranges puts ∷ xs) w all = absurd (all (first (splitting i block ranges puts) xs))
+  between-still [] w none = refl
+  between-still (recovering e ∷ xs) w none = between-still xs (next_world F w (recovering e)) (λ r. none (later (recovering e) r))
+  between-still (attempting i block ranges e ∷ xs) w none = absurd (none (first (attempting i block ranges e) xs) tt)
+  between-still (calling c ∷ xs) w none =
+      between-still xs (next_world F w (calling c)) (λ r. none (later (calling c) r))
+      ∙ looks-still F F16 w.known w.media.journal w.media.card c (looks-only c (none (first (calling c) xs)))
+  between-still (splitting i block ranges puts ∷ xs) w none = absurd (none (first (splitting i block ranges puts) xs) tt)
 
   module _ (w₀ : World) (xs : List Item) (chip : Chip F F16 w₀) (possible : AllPossible F F16 w₀ xs)
       (here : HereFrom F F16 false w₀ xs) where
@@ -41,7 +49,7 @@ module _ (F : List ℕ → List ℕ) (F16 : (m : List ℕ) → length (F m) ≡ 
 
     module _ (p q : Place xs) (b : Behind p q) (i : ℕ) (block ranges : List ℕ) (e : Ending) (is : p.item ≡ attempting i block ranges e)
         (accepted : (tried F (world_after F w₀ p.before).media i block ranges).call.answer ≡ Whole)
-        (all : (r : Place b.between) → IsRecovery r.item) (is-whole : q.item ≡ recovering whole) where
+        (none : (r : Place b.between) → Writes r.item → ⊥) (is-whole : q.item ≡ recovering whole) where
       abbrev w : World
       w = world_after F w₀ p.before
 
@@ -56,7 +64,7 @@ module _ (F : List ℕ → List ℕ) (F16 : (m : List ℕ) → length (F m) ≡ 
       known-same =
           ap (λ (ys : List Item). (world_after F w₀ ys).known) b.is
           ∙ ap (λ (z : World). z.known) (world-append F p.before (p.item ∷ b.between) w₀)
-          ∙ recoveries-still b.between (next_world F w p.item) all
+          ∙ between-still b.between (next_world F w p.item) none
           ∙ ap (λ (x : Item). (next_world F w x).known) is
 
       chip-p : Chip F F16 w
@@ -87,6 +95,7 @@ module _ (F : List ℕ → List ℕ) (F16 : (m : List ℕ) → length (F m) ≡ 
           let array = w.known.store.array in
           (m.anchor.root.0 ≡ a.root.0 → Shows F m.anchor m.card array)
           × (m.anchor.root.0 ≡ a.reserved.0 + a.depth → Shows F m.anchor m.card (set array i block))
+          × ((m.anchor.root.0 ≡ a.root.0) ⊎ (m.anchor.root.0 ≡ a.reserved.0 + a.depth))
 
       promised : Promise q.item
       promised =
@@ -97,13 +106,15 @@ module _ (F : List ℕ → List ℕ) (F16 : (m : List ℕ) → length (F m) ≡ 
           subst Promise (sym is-whole) (
             λ k. shown w.known.store.array (array ∙ (r.old (sym root ∙ k)).0),
             λ k. shown (set w.known.store.array i block) (array ∙ (r.new (sym root ∙ k)).0),
+            ⊎_elim (λ (k : v.media.anchor.root.0 ≡ w.media.anchor.root.0). inl (root ∙ k))
+                (λ (k : v.media.anchor.root.0 ≡ w.media.anchor.reserved.0 + w.media.anchor.depth). inr (root ∙ k)) r.either,
           )
 
     pub kept : Kept F w₀ xs
     kept =
         record {
           restored = λ p is. at p (recovering whole) is;
-          promised = λ p q b i block ranges e is accepted all is-whole. promised p q b i block ranges e is accepted all is-whole;
+          promised = λ p q b i block ranges e is accepted none is-whole. promised p q b i block ranges e is accepted none is-whole;
           attempts = λ p i block ranges e is. at p (attempting i block ranges e) is;
           splits = λ p i block ranges puts is. at p (splitting i block ranges puts) is;
           calls = λ p c is s. (at p (calling c) is (closed p s)).0;

@@ -6,8 +6,9 @@ use Prim.Native.Nat.{ℕ}
 use Rattle.tree.specs.Answer.{is_whole}
 use Rattle.replay.specs.Places.{Place}
 use Rattle.replay.specs.Run.{Step, call, split, attempt, finished, after}
+use Rattle.replay.proofs.Moves.{not-whole}
 use Rattle.cuts.specs.Media.{fate_of}
-use Rattle.cuts.specs.World.{Item, World, left_by, laid_out, media_after, steps_of, next_world}
+use Rattle.cuts.specs.World.{Item, World, ended, left_by, recovery, laid_out, media_after, steps_of, next_world}
 use Rattle.cuts.specs.World.{world_after, steps, before}
 use Rattle.cuts.specs.NotEmpty.{Listed, Lists}
 
@@ -50,6 +51,11 @@ module _ (F : List ℕ → List ℕ) where
           splits = λ p i block ranges puts is.
               listed p (split (before F w₀ p).media.card i block ranges puts) (ap (steps_of F (before F w₀ p).media) is);
           recoveries = λ p e is. ap (λ (x : Item). (next_world F (before F w₀ p) x).known) is;
+          refused-recovery = λ p e is d.
+              let w = before F w₀ p in
+              ap (media_after F w.media) is
+              ∙ ap (λ (b : Bool). cond b (ended e (left_by w.media (recovery F w.media))) w.media)
+              (not-whole F w.known.store (recovery F w.media).answer d);
           call-leaves = λ p c is. ap (media_after F (before F w₀ p).media) is;
           split-leaves = λ p i block ranges puts is w.
               let m = (before F w₀ p).media in

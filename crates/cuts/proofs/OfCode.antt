@@ -26,11 +26,12 @@ use Rattle.replay.specs.Ran.{Back, PlanRan, PutRan, Tells, Formatted}
 use Rattle.replay.proofs.PlaceLaws.{first, later, no_place, at_places, mapped}
 use Rattle.replay.proofs.Anchors.{after-key}
 use Rattle.replay.proofs.OfCode.{step-tells}
-use Rattle.cuts.specs.Media.{Media, Part, anchor_out, journal_out, ranges_out, all_out, four_steps}
-use Rattle.cuts.specs.World.{whole, Item, World, ended, left_by, tried, recovery, media_after, next_world}
+use Rattle.cuts.specs.Media.{Media, Part, anchor_out, journal_out, ranges_out, all_out, four_steps, one_step}
+use Rattle.cuts.specs.World.{Ending, whole, Item, World, ended, left_by, tried, recovery, media_after, next_world}
 use Rattle.cuts.specs.World.{world_after, steps, begins, Possible, Lawful}
 use Rattle.cuts.specs.Claim.{Restores}
-use Rattle.cuts.specs.Ran.{RanItem, attempting, recovering, calling, splitting, item_of, items, media_ran, media_by, Meets}
+use Rattle.cuts.specs.Ran.{Wrote, RanItem, attempting, recovering, calling, splitting, item_of, items, steps_back, step_back}
+use Rattle.cuts.specs.Ran.{media_ran, media_by, Meets}
 use Rattle.cuts.specs.Ran.{History, CutsOf}
 use Rattle.cuts.proofs.Chip.{known-is, chip-next, chip-after, all-complete, AllPossible}
 use Rattle.cuts.proofs.Theorem.{recovers, is-list}
@@ -69,22 +70,33 @@ module _ (key : List ℕ) where
   abbrev holds : Anchor → State
   holds a = record { store = record { anchor = a; array = []; left = [] }; tagged = [] }
 
+  -- what the contracts say, under the format's key
+  wrote-on : (m : Media) → m.anchor.key ≡ key → (i : ℕ) (block ranges : List ℕ) (w : Wrote) (ending : Ending)
+      → Meets m (attempting i block ranges w ending)
+      → Journals (subkeys_count key) (cmac_count key) (tried F m i block ranges)
+      w.back.answer w.back.count w.raised w.back.anchor w.back.card w.back.lent w.journal
+  wrote-on m e i block ranges w ending h =
+      subst
+      (λ (q : List ℕ). Journals (subkeys_count q) (cmac_count q) (journalled (cmac_of q) m.anchor m.card i block ranges m.journal)
+      w.back.answer w.back.count w.raised w.back.anchor w.back.card w.back.lent w.journal) e h
+
+  recovered-on : (m : Media) → m.anchor.key ≡ key → (answer : Answer) (left : List ℕ) (ending : Ending)
+      → Meets m (recovering answer left ending)
+      → Gives (recovery F m) answer m.anchor left []
+  recovered-on m e answer left ending h =
+      subst (λ (q : List ℕ). Gives (recovered (cmac_of q) m.anchor m.card m.journal) answer m.anchor left []) e h
+
   -- what it gave back makes the media of the definitions
   same-next : (m : Media) → m.anchor.key ≡ key → (r : RanItem) → Meets m r → media_after F m (item_of r) ≡ media_ran m r
   unfolding media_after
   same-next m e (attempting i block ranges w ending) h =
-      let k : Journals (subkeys_count key) (cmac_count key) (tried F m i block ranges)
-      w.back.answer w.back.count w.raised w.back.anchor w.back.card w.back.lent w.journal =
-      subst
-      (λ (q : List ℕ). Journals (subkeys_count q) (cmac_count q) (journalled (cmac_of q) m.anchor m.card i block ranges m.journal)
-      w.back.answer w.back.count w.raised w.back.anchor w.back.card w.back.lent w.journal) e h in
+      let k = wrote-on m e i block ranges w ending h in
       let g = k.reports.gives in
       ap (λ (o : Answer). cond (is_whole o) (ended ending (all_out (four_steps (tried F m i block ranges) i) m)) m) (sym g.answered)
       ∙ ap (λ (ps : List Part). cond (is_whole w.back.answer) (ended ending (all_out ps m)) m)
       (sym (steps-same k.raises k.journals g.anchored g.left i))
   same-next m e (recovering answer left ending) h =
-      let g : Gives (recovery F m) answer m.anchor left [] =
-      subst (λ (q : List ℕ). Gives (recovered (cmac_of q) m.anchor m.card m.journal) answer m.anchor left []) e h in
+      let g = recovered-on m e answer left ending h in
       ap (λ (o : Answer). cond (is_whole o) (ended ending (left_by m (recovery F m))) m) (sym g.answered)
       ∙ ap (λ (v : Media). cond (is_whole answer) (ended ending v) m) (sym (media-same m.journal g.anchored g.left))
   same-next m e (calling c back) h =
@@ -95,6 +107,18 @@ module _ (key : List ℕ) where
       ap (λ (card : List ℕ). left_by m (result F (holds m.anchor).store
       (Rattle.replay.specs.Run.split card p.index p.block p.ranges (map (λ (q : PutRan). q.step) qs)))) (sym h.0)
       ∙ sym (media-same m.journal g.anchored g.left)
+
+  -- and goes out in the steps of the definitions
+  told-steps : (m : Media) → m.anchor.key ≡ key → (i : ℕ) (block ranges : List ℕ) (w : Wrote) (ending : Ending)
+      → Meets m (attempting i block ranges w ending) → steps_back w i ≡ four_steps (tried F m i block ranges) i
+  told-steps m e i block ranges w ending h =
+      let k = wrote-on m e i block ranges w ending h in
+      let g = k.reports.gives in
+      steps-same k.raises k.journals g.anchored g.left i
+
+  told-step : (m : Media) → m.anchor.key ≡ key → (answer : Answer) (left : List ℕ) (ending : Ending)
+      → Meets m (recovering answer left ending) → step_back F m left ≡ one_step F m
+  told-step m e answer left ending h = ap (step_back F m) (recovered-on m e answer left ending h).left
 
   -- The list
 
@@ -142,12 +166,25 @@ module _ (key : List ℕ) where
       (subst (λ (m : Media). History m rs) (sym n) h.1) p in
       (ap (λ (m : Media). media_by m p.before) (sym n) ∙ q.0, q.1, q.2))
 
+  -- and at the end
+  ends : (rs : List RanItem) (w : World) → w.media.anchor ≡ w.known.store.anchor → w.media.anchor.key ≡ key
+      → AllGood w (items rs) → History w.media rs → media_by w.media rs ≡ (world_after F w (items rs)).media
+  unfolding world_after
+  ends [] w chip e k h = refl
+  ends (r ∷ rs) w chip e k h =
+      let x = item_of r in
+      let now = k (first x (items rs)) in
+      let n = media-next w r e h.0 in
+      let one : AllGood w (x ∷ []) = at_places (λ before y. Possible F (world_after F w before).media y) x [] now (λ p. absurd (no_place p)) in
+      ap (λ (m : Media). media_by m rs) (sym n)
+      ∙ ends rs (next_world F w x) (chip-next F (length-cmac key) w x chip now) (key-next w x chip one ∙ e) (λ q. k (later x q))
+      (subst (λ (m : Media). History m rs) (sym n) h.1)
+
   -- a finished recovery, where the claim's first half holds
   recovered-left : (w : World) (answer : Answer) (left : List ℕ) → w.media.anchor.key ≡ key → Meets w.media (recovering answer left whole)
       → Restores F w → (answer ≡ Whole) × (left ≡ w.known.store.left)
   recovered-left w answer left e h r =
-      let g : Gives (recovery F w.media) answer w.media.anchor left [] =
-      subst (λ (q : List ℕ). Gives (recovered (cmac_of q) w.media.anchor w.media.card w.media.journal) answer w.media.anchor left []) e h in
+      let g = recovered-on w.media e answer left whole h in
       let a = g.answered ∙ r.accepted in (
         a,
         sym (ap (λ (o : Answer). (media_ran w.media (recovering o left whole)).card) a)
@@ -184,12 +221,25 @@ module _ (key : List ℕ) where
     met : (p : Place rs) → Met w₀ p.before p.item
     met = follows rs w₀ chip keyed lawful.possible (subst (λ (m : Media). History m rs) begun-so ran)
 
+    media-at : (p : Place rs) → media_by m₀ p.before ≡ (world_after F w₀ (items p.before)).media
+    media-at p = ap (λ (m : Media). media_by m p.before) begun-so ∙ (met p).0
+
     pub cuts-of-code : CutsOf key n card journal (record { anchor = a; journal = journal; card = left }) rs
     cuts-of-code =
         record {
           recovers = recovers key n ok.deep ok.shallow card ok.full journal long (items rs) lawful;
           list = is-list key n ok.deep ok.shallow card ok.full journal long (items rs) lawful;
-          media = λ p. ap (λ (m : Media). media_by m p.before) begun-so ∙ (met p).0;
+          steps = λ p i block ranges w e is.
+              let v = (world_after F w₀ (items p.before)).media in
+              subst (λ (u : Media). steps_back w i ≡ four_steps (tried F u i block ranges) i) (sym (media-at p))
+              (told-steps v (met p).1 i block ranges w e (subst (Meets v) is (met p).2));
+          recovery-step = λ p answer left e is.
+              let v = (world_after F w₀ (items p.before)).media in
+              subst (λ (u : Media). step_back F u left ≡ one_step F u) (sym (media-at p))
+              (told-step v (met p).1 answer left e (subst (Meets v) is (met p).2));
+          media = media-at;
+          ends = ap (λ (m : Media). media_by m rs) begun-so
+              ∙ ends rs w₀ chip keyed lawful.possible (subst (λ (m : Media). History m rs) begun-so ran);
           restored = λ kept p answer left e.
               let w = world_after F w₀ (items p.before) in
               recovered-left w answer left (met p).1 (subst (Meets w.media) e (met p).2)

@@ -85,7 +85,7 @@ module _ (F : List ℕ → List ℕ) (F16 : (m : List ℕ) → length (F m) ≡ 
       go (Refused r) = refl
   looks-same wipe e = cc
 
-  looks-still : (c : Call) → renews c ≡ false → next F s (call card c) ≡ s
+  pub looks-still : (c : Call) → renews c ≡ false → next F s (call card c) ≡ s
   looks-still c e = go (move F F16 s (call card c) tt)
     where
       go : Move F s (call card c) → next F s (call card c) ≡ s

@@ -1,8 +1,8 @@
 -- The claim over cuts and the laws beside it, for tags of 16 bytes and for CMAC under any key.
-use mathlib.Core.Path.{◌≡◌, refl, ap}
+use mathlib.Core.Path.{◌≡◌, refl, sym, ap, ◌∙◌}
 use mathlib.Core.List.{List}
 use Prim.Native.Nat.{ℕ, ◌≤◌}
-use lib.ListN.{length}
+use lib.ListN.{length, replicate, length-replicate}
 use Rattle.cmac.specs.Cmac.{cmac_of}
 use Rattle.cmac.proofs.Laws.{length-cmac}
 use Rattle.tree.specs.Layout.{card_length}
@@ -13,7 +13,7 @@ use Rattle.journal.specs.Journal.{journal_length}
 use Rattle.cuts.specs.Media.{Media}
 use Rattle.cuts.specs.World.{Item, World, tried, recovery, begins, Lawful}
 use Rattle.cuts.specs.Claim.{Recovers, IsList}
-use Rattle.cuts.specs.NotEmpty.{AttemptCuts, RecoveryCuts, Tags, NoForgery, Lists, GoesOn, Begins}
+use Rattle.cuts.specs.NotEmpty.{AttemptCuts, RecoveryCuts, Tags, NoForgery, Lists, GoesOn, ShowsOne, Begins}
 use Rattle.cuts.proofs.CutLaws
 use Rattle.cuts.proofs.RecoveryLaws
 use Rattle.cuts.proofs.Begins.{inv-begins}
@@ -34,6 +34,15 @@ begins-any F key n deep shallow card full journal =
           m)
           (format-accept n card deep shallow full);
       known = refl;
+    }
+
+-- On any card
+pub shows-one : (F : List ℕ → List ℕ) → ShowsOne F
+shows-one F =
+    record {
+      one = λ a card x y p q i inside.
+          let z : List ℕ = replicate 64 0 in
+          sym (p i z inside (length-replicate {A = ℕ} 64 0)).1 ∙ (q i z inside (length-replicate {A = ℕ} 64 0)).1;
     }
 
 -- Any key, any depth from 1 to 16, any card of the right length to format, any bytes as the first journal, and any lawful list

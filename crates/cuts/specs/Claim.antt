@@ -20,7 +20,7 @@ use Rattle.replay.specs.Tagged.{Unforged}
 use Rattle.replay.specs.Nonces.{NonceRule}
 use Rattle.cuts.specs.Media.{Media}
 use Rattle.cuts.specs.World.{Item, attempting, recovering, calling, splitting, Ending, whole, World, tried, recovery, laid_out, media_after}
-use Rattle.cuts.specs.World.{next_world, world_after, steps, Settled, before}
+use Rattle.cuts.specs.World.{next_world, world_after, steps, Writes, Settled, before}
 
 -- What is answered where no cut is open: never 8, and nothing but acceptance within the limits.
 pub record Serves (ls : List Limit) (x : Answer) : Type 0 where
@@ -72,16 +72,18 @@ module _ (F : List ℕ → List ℕ) (w₀ : World) where
   pub record Kept (xs : List Item) : Type 0 where
     -- every finished recovery restores
     pub restored : (p : Place xs) → p.item ≡ recovering whole → Restores F (before F w₀ p)
-    -- behind an accepted attempt and then recoveries, cut anywhere, the card of one that finishes shows the old array if T on the chip is
-    -- as it was before the attempt, and the new one if it is the H that was raised
+    -- behind an accepted attempt and then no other write, but recoveries cut anywhere, reads and checks, the card of a recovery that
+    -- finishes shows the old array if T on the chip is as it was before the attempt, and the new one if it is the H that was raised; and T
+    -- is one of the two
     pub promised : (p q : Place xs) (b : Behind p q) (i : ℕ) (block ranges : List ℕ) (e : Ending) → p.item ≡ attempting i block ranges e
-        → (tried F (media_before p) i block ranges).call.answer ≡ Whole → ((r : Place b.between) → IsRecovery r.item)
+        → (tried F (media_before p) i block ranges).call.answer ≡ Whole → ((r : Place b.between) → Writes r.item → ⊥)
         → q.item ≡ recovering whole →
         let m = media_after F (media_before q) q.item in
         let a = (media_before p).anchor in
         let array = (before F w₀ p).known.store.array in
         (m.anchor.root.0 ≡ a.root.0 → Shows F m.anchor m.card array)
         × (m.anchor.root.0 ≡ a.reserved.0 + a.depth → Shows F m.anchor m.card (set array i block))
+        × ((m.anchor.root.0 ≡ a.root.0) ⊎ (m.anchor.root.0 ≡ a.reserved.0 + a.depth))
     -- every attempt and split write is served,
     pub attempts : (p : Place xs) (i : ℕ) (block ranges : List ℕ) (e : Ending) → p.item ≡ attempting i block ranges e →
         let m = media_before p in

@@ -1,12 +1,13 @@
 -- Laws beside the claim, so that it is no empty word: what a cut may leave, both ways; what is tagged; that our own journals are no
 -- forgery; which list of demand 3 a list is; and that lists go on wherever the paper lets them.
-use Rattle.std.specs.Prelude.{ℕ, ◌+◌, ◌≡◌, ◌⊎◌, true, false, length}
+use Rattle.std.specs.Prelude.{ℕ, ◌+◌, ◌^◌, ◌<◌, ◌≡◌, ◌⊎◌, true, false, length}
 use mathlib.Core.List.{List, [], ◌∷◌, ◌++◌, Memᴰ}
 use Rattle.words.specs.Bytes.{at}
 use Rattle.tree.specs.Ranges.{Range, ranges_of}
 use Rattle.tree.specs.Card.{blanked, written}
 use Rattle.tree.specs.Answer.{Whole}
 use Rattle.tree.specs.Calls.{Call, write, renews, raise, renew, formatted, outcome}
+use Rattle.tree.specs.declared.Anchor.{Anchor}
 use Rattle.journal.specs.Journal.{scattered, message_of, tag_of, new_bytes, journal_of, applies}
 use Rattle.journal.specs.Recovery.{pending}
 use Rattle.plan.specs.Split.{Given, planned}
@@ -14,13 +15,14 @@ use Rattle.plan.specs.Puts.{PutStep, begun, after_all_puts}
 use Rattle.plan.specs.Places.{plan_nodes}
 use Rattle.plan.specs.Orders.{Rearranged, returned}
 use Rattle.plan.specs.Rule.{Waits}
+use Rattle.replay.specs.Array.{Array, block_at}
 use Rattle.replay.specs.Places.{Place}
 use Rattle.replay.specs.Run.{Fate, unheard, lost, stood, Step, call, split, attempt, start}
 use Rattle.replay.specs.Tagged.{CallTags, JournalTags, Accepts}
 use Rattle.cuts.specs.Media.{Media, all_out, four_steps, one_step, Outside, Cut, fate_of}
 use Rattle.cuts.specs.World.{Ending, whole, cut, Item, attempting, recovering, calling, splitting, World, tried, recovery, media_after}
 use Rattle.cuts.specs.World.{steps, begins, next_world, world_after, Settled, before, Lawful}
-use Rattle.cuts.specs.Claim.{media_before, Kept, Forgery}
+use Rattle.cuts.specs.Claim.{media_before, Shows, Kept, Forgery}
 
 -- What a cut may leave
 
@@ -51,7 +53,8 @@ module _ (F : List ℕ → List ℕ) (m : Media) (i : ℕ) (block : List ℕ) wh
     -- and all of that some cut leaves
     pub cuts : (f : Fate) (w : Media) → Shown f w → Cut (four_steps (tried F m i block ranges) i) m w
     pub fates : (f : Fate) (w : Media) → Shown f w → fate_of m.anchor w.anchor ≡ f
-    -- so any bytes may lie in the journal, and any in the ranges
+    -- so nothing may be out yet, any bytes may lie in the journal, and any in the ranges
+    pub nothing-out : Cut (four_steps (tried F m i block ranges) i) m m
     pub any-journal : (journal : List ℕ) → length journal ≡ length m.journal
         → Cut (four_steps (tried F m i block ranges) i) m (record { anchor = raise m.anchor; journal = journal; card = m.card })
     pub any-ranges : (new : List ℕ) → Cut (four_steps (tried F m i block ranges) i) m (record {
@@ -141,6 +144,9 @@ module _ (F : List ℕ → List ℕ) (w₀ : World) where
         → Listed p (split (media_before F w₀ p).card i block ranges puts)
     pub recoveries : (p : Place xs) (e : Ending) → p.item ≡ recovering e
         → (next_world F (before F w₀ p) p.item).known ≡ (before F w₀ p).known
+    -- refused it changes nothing, whatever the cut
+    pub refused-recovery : (p : Place xs) (e : Ending) → p.item ≡ recovering e
+        → ((recovery F (media_before F w₀ p)).answer ≡ Whole → ⊥) → media_after F (media_before F w₀ p) p.item ≡ media_before F w₀ p
     -- a whole call and a split write leave what they return
     pub call-leaves : (p : Place xs) (c : Call) → p.item ≡ calling c →
         let m = media_before F w₀ p in
@@ -205,6 +211,19 @@ module _ (F : List ℕ → List ℕ) (w₀ : World) where
     pub call-waits : (xs : List Item) (c : Call) → renews c ≡ true → Lawful F w₀ (xs ++ (calling c ∷ [])) → Settled xs
     pub split-waits : (xs : List Item) (i : ℕ) (block ranges : List ℕ) (puts : List PutStep)
         → Lawful F w₀ (xs ++ (splitting i block ranges puts ∷ [])) → Settled xs
+    -- A list of our own journals begins with any journal that has a wrong tag, and of what is cut alone more is asked: the journal of an
+    -- attempt, as the cut leaves it, has a wrong tag, or is the old or the new one.
+    pub own-none : (n : ℕ) → WrongTag n w₀.media.journal → OwnJournals n []
+    pub own-more : (n : ℕ) (xs : List Item) (x : Item) → OwnJournals n xs
+        → ((i : ℕ) (block ranges : List ℕ) (v : Media) → x ≡ attempting i block ranges (cut v) →
+        let m = (world_after F w₀ xs).media in
+        WrongTag n v.journal ⊎ ((v.journal ≡ m.journal) ⊎ (v.journal ≡ (tried F m i block ranges).journal)))
+        → OwnJournals n (xs ++ (x ∷ []))
+
+-- a card that shows an array shows no other, block by block
+pub record ShowsOne (F : List ℕ → List ℕ) : Type 0 where
+  pub one : (a : Anchor) (card : List ℕ) (x y : Array) → Shows F a card x → Shows F a card y → (i : ℕ) → i < 2 ^ a.depth
+      → block_at x i ≡ block_at y i
 
 -- The world begins after a format of depth n, with any bytes as the journal.
 pub record Begins (F : List ℕ → List ℕ) (key : List ℕ) (n : ℕ) (card journal : List ℕ) : Type 0 where

@@ -8,13 +8,13 @@ use Rattle.tree.specs.Answer.{Answer, Whole, is_whole}
 use Rattle.tree.specs.Calls.{Call, Gives}
 use Rattle.tree.specs.declared.Anchor.{Anchor}
 use Rattle.journal.specs.Journalled.{journalled, Journals}
-use Rattle.journal.specs.Recovery.{recovered}
+use Rattle.journal.specs.Recovery.{pending, recovered}
 use Rattle.replay.specs.Places.{Place}
 use Rattle.replay.specs.Ran
 use Rattle.replay.specs.Ran.{Back, PlanRan, PutRan, last_anchor, last_card}
-use Rattle.cuts.specs.Media.{Media, Part, anchor_out, journal_out, ranges_out, all_out}
+use Rattle.cuts.specs.Media.{Media, Part, anchor_out, journal_out, ranges_out, all_out, four_steps, one_step}
 use Rattle.cuts.specs.World
-use Rattle.cuts.specs.World.{Ending, whole, Item, ended, begins, world_after, before}
+use Rattle.cuts.specs.World.{Ending, whole, Item, ended, tried, begins, world_after, before}
 use Rattle.cuts.specs.Claim.{Recovers, IsList, Kept}
 
 -- what a journalled write gave back: both anchors, the final one in `back`, and the journal as it left it
@@ -44,6 +44,10 @@ abbrev pub steps_back : Wrote → ℕ → List Part
 steps_back w i =
     anchor_out w.raised ∷ journal_out w.journal ∷ anchor_out w.back.anchor
     ∷ ranges_out (ranges_of w.back.anchor.depth i) w.back.card ∷ []
+
+-- the step of a recovery that left the card so, on the media
+abbrev pub step_back : (List ℕ → List ℕ) → Media → List ℕ → List Part
+step_back F m left = ranges_out (pending F m.anchor.depth m.anchor.root.0 m.journal) left ∷ []
 
 -- the media behind an item, by what it gave back
 abbrev pub media_ran : Media → RanItem → Media
@@ -80,12 +84,18 @@ pub record Runs (m : Media) (xs : List Item) : Type 0 where
   pub met : History m ran
   pub are : items ran ≡ xs
 
--- Of items that ran after a format, whose list is lawful: the claim over cuts holds of their list, the media are those that they left, and
--- where the claim's first half holds every finished recovery answered that it is whole, and left the card as last left.
+-- Of items that ran after a format, whose list is lawful: the claim over cuts holds of their list; what they gave back goes out in the
+-- definition's steps, in their order, so that a cut of the one is a cut of the other; the media are those that they left; and where the
+-- claim's first half holds every finished recovery answered that it is whole, and left the card as last left.
 pub record CutsOf (key : List ℕ) (n : ℕ) (card journal : List ℕ) (m : Media) (rs : List RanItem) : Type 0 where
   pub recovers : Recovers (cmac_of key) (begins (cmac_of key) key n card journal) (items rs)
   pub list : IsList (cmac_of key) (begins (cmac_of key) key n card journal) key n (items rs)
+  pub steps : (p : Place rs) (i : ℕ) (block ranges : List ℕ) (w : Wrote) (e : Ending) → p.item ≡ attempting i block ranges w e
+      → steps_back w i ≡ four_steps (tried (cmac_of key) (media_by m p.before) i block ranges) i
+  pub recovery-step : (p : Place rs) (answer : Answer) (left : List ℕ) (e : Ending) → p.item ≡ recovering answer left e
+      → step_back (cmac_of key) (media_by m p.before) left ≡ one_step (cmac_of key) (media_by m p.before)
   pub media : (p : Place rs) → media_by m p.before ≡ (world_after (cmac_of key) (begins (cmac_of key) key n card journal) (items p.before)).media
+  pub ends : media_by m rs ≡ (world_after (cmac_of key) (begins (cmac_of key) key n card journal) (items rs)).media
   pub restored : Kept (cmac_of key) (begins (cmac_of key) key n card journal) (items rs) → (p : Place rs) (answer : Answer) (left : List ℕ)
       → p.item ≡ recovering answer left whole
       → (answer ≡ Whole) × (left ≡ (world_after (cmac_of key) (begins (cmac_of key) key n card journal) (items p.before)).known.store.left)
