@@ -1,32 +1,47 @@
 -- A journalled write for C is an attempt of the list.
 use mathlib.Core.Path.{◌≡◌, refl, sym, ap, ap₂, subst, ◌∙◌}
 use mathlib.Core.Bool.{Bool, true, false, cond}
-use mathlib.Core.List.{List}
+use mathlib.Core.List.{List, []}
 use Prim.Native.Nat.{ℕ, ◌+◌}
 use borrow.Author.Tests.{eqb-true, eqb-false}
 use lib.Dec.{eqb}
 use lib.ListN.{length}
+use Rattle.words.specs.Bytes.{at}
 use Rattle.cmac.specs.Cmac.{cmac_of}
+use Rattle.tree.specs.Ranges.{ranges_of}
 use Rattle.tree.specs.Answer.{Answer, Whole, Wrong, Refused, is_whole}
 use Rattle.tree.specs.Calls.{write, outcome}
 use Rattle.tree.specs.declared.Anchor.{Anchor}
 use Rattle.tree.proofs.CallLaws.{outcome-done}
 use Rattle.journal.specs.Journal.{journal_of}
 use Rattle.journal.specs.Journalled.{Journalled, journalled_answer, journalled_refused, journalled}
+use Rattle.journal.specs.Recovery.{recovered}
 use Rattle.journal.proofs.JournalledLaws.{journalled-answer, journalled-done, journalled-refused, write-whole}
+use Rattle.scope.specs.Ordered.{OutOf}
+use Rattle.scope.proofs.RecoveryRule.{finish-rule}
 use Rattle.replay.specs.Run.{Fate, unheard, lost, stood, anchor_after, attempt_outcome}
 use Rattle.host_bytes.specs.Host.{anchor_bytes, anchor_of, with_reserved, code_of, Host, hosted, Hosts, Codes}
-use Rattle.host_bytes.specs.Journal.{hosted_journalled, HostsJournalled}
+use Rattle.host_bytes.specs.Journal.{hosted_journalled, HostsJournalled, host_recovery}
 use Rattle.host_bytes.specs.RoundTrip.{Stands}
 use Rattle.host_bytes.proofs.AnchorLaws.{code-whole, whole_code}
 use Rattle.host_bytes.proofs.HostLaws.{host-call}
-use Rattle.host_bytes.proofs.JournalTripLaws.{write-told, write-stored}
+use Rattle.host_bytes.proofs.JournalTripLaws.{write-told, write-stored, recovery-told, recovery-stored}
 use Rattle.host_replay.specs.Called.{AttemptCalled, reached, chip_anchor, AttemptMeets}
 use Rattle.host_replay.specs.Plain.{AttemptLikeWrite}
 
 -- the journalled write that pat_write_journalled makes with the anchor a
 abbrev pub journalled_on : Anchor → AttemptCalled → Journalled
 journalled_on a t = journalled (cmac_of a.key) a t.card t.index t.block t.ranges t.journal
+
+-- recovery with bytes that stand for an anchor, whose key is told
+recovers : (key : List ℕ) (bytes : List ℕ) (b : Anchor) → Stands bytes b → b.key ≡ key
+    → (card given journal : List ℕ) → given ≡ journal → (code : ℕ) (e left : List ℕ)
+    → Hosts (host_recovery bytes card given) code e left [] → Codes (recovered (cmac_of key) b card journal) code (anchor_of e) left []
+recovers key bytes b stands same card given journal is code e left g =
+    subst (λ (l : List ℕ). Codes (recovered (cmac_of key) b card l) code (anchor_of e) left []) is
+    (subst (λ (k : List ℕ). Codes (recovered (cmac_of k) b card given) code (anchor_of e) left []) same
+    (subst (λ (c : Anchor). Codes (recovered (cmac_of c.key) c card given) code (anchor_of e) left []) stands.is
+    (recovery-told bytes card given code e left g stands.long)))
 
 -- given the anchor a
 module _ (a : Anchor) (s : List ℕ) (stands : Stands s a) (t : AttemptCalled) (m : AttemptMeets s t) where
@@ -124,6 +139,46 @@ module _ (a : Anchor) (s : List ℕ) (stands : Stands s a) (t : AttemptCalled) (
         ∙ ap (λ (j : Journalled). cond (is_whole j.call.answer) (with_reserved s j.raised.reserved.0) t.room)
         (journalled-done F a t.card t.index t.block t.ranges t.journal whole)
 
+    -- the anchor that is first stored stands for the raised one,
+    raised-stands : Stands t.raised (journalled_on a t).raised
+    raised-stands = stored.1 zero
+
+    -- and both have the key that was given
+    final-key : (journalled_on a t).call.anchor.key ≡ a.key
+    final-key = ap (λ (j : Journalled). j.call.anchor.key) (journalled-done F a t.card t.index t.block t.ranges t.journal whole)
+
+    raised-key : (journalled_on a t).raised.key ≡ a.key
+    raised-key = ap (λ (j : Journalled). j.raised.key) (journalled-done F a t.card t.index t.block t.ranges t.journal whole)
+
+    write-answer : (journalled_on a t).call.answer ≡ Whole
+    write-answer = journalled-answer F a t.card t.index t.block t.ranges t.journal ∙ whole
+
+    -- recovery with the final anchor ends the write,
+    pub ends : (torn : List ℕ) → length torn ≡ length t.card
+        → ((j : ℕ) → OutOf (ranges_of a.depth t.index) j → at torn j ≡ at t.card j)
+        → (code : ℕ) (e left : List ℕ) → Hosts (host_recovery t.anchor torn t.filled) code e left []
+        → (code ≡ 0) × (e ≡ t.anchor) × (left ≡ t.left)
+    ends torn l out code e left g =
+        let k = recovers a.key t.anchor (journalled_on a t).call.anchor stored.0 final-key torn t.filled (journalled_on a t).journal
+        attempt-told.journals code e left g in
+        let f = (finish-rule a t.card t.index t.block t.ranges t.journal).finished write-answer torn l out in (
+          k.coded ∙ ap code_of f.0 ∙ whole_code,
+          recovery-stored t.anchor torn t.filled code e left g,
+          k.left ∙ f.1 ∙ sym attempt-told.left,
+        )
+
+    -- and with the raised one it leaves the card
+    pub waits : (other : List ℕ) → length other ≡ length t.card → (code : ℕ) (e left : List ℕ)
+        → Hosts (host_recovery t.raised other t.filled) code e left [] → (code ≡ 0) × (e ≡ t.raised) × (left ≡ other)
+    waits other l code e left g =
+        let k = recovers a.key t.raised (journalled_on a t).raised raised-stands raised-key other t.filled (journalled_on a t).journal
+        attempt-told.journals code e left g in
+        let f = (finish-rule a t.card t.index t.block t.ranges t.journal).begun write-answer other l in (
+          k.coded ∙ ap code_of f.0 ∙ whole_code,
+          recovery-stored t.raised other t.filled code e left g,
+          k.left ∙ f.1,
+        )
+
 -- byte for byte
 pub attempt-like-write : (s : List ℕ) → length s ≡ anchor_bytes → (t : AttemptCalled) → AttemptMeets s t → t.code ≡ 0 → AttemptLikeWrite s t
 attempt-like-write s long t m zero =
@@ -135,4 +190,6 @@ attempt-like-write s long t m zero =
           (ap (hosted true s) (write-same a s stands t m zero) ∙ sym (host-call s t.card long (write t.index t.block t.ranges)))
           (record { coded = told.coded; anchored = told.anchored; left = told.left; filled = told.filled });
       raises = raises-so a s stands t m zero;
+      finished = ends a s stands t m zero;
+      begun = waits a s stands t m zero;
     }

@@ -1,9 +1,11 @@
 -- Demand 3 of the functions for C in their own terms: answers, bytes and a plain array.
 use Rattle.std.specs.Prelude.{ℕ, ◌+◌, ◌*◌, ◌%◌, ◌^◌, ◌<◌, ◌≤◌, ◌≡◌, Bool, true, false, not, cond, ◌&&◌, ◌||◌, ◌⊎◌, eqb, length, take, drop}
 use mathlib.Core.List.{List, [], ◌∷◌, ◌++◌, Memᴰ}
+use Rattle.words.specs.Bytes.{at}
 use Rattle.cmac.specs.Cmac.{cmac_of}
 use Rattle.std.proofs.Math.Option.{none}
 use Rattle.tree.specs.Layout.{size, label}
+use Rattle.tree.specs.Ranges.{ranges_of}
 use Rattle.tree.specs.Calls
 use Rattle.tree.specs.Limits.{first_failing}
 use Rattle.tree.specs.Calls.{Call, is_write, renews}
@@ -11,13 +13,14 @@ use Rattle.tree.specs.declared.Anchor.{Anchor}
 use Rattle.plan.specs.Places.{plan_nodes, every}
 use Rattle.plan.specs.Split.{message_room}
 use Rattle.plan.specs.Orders.{Rearranged}
+use Rattle.scope.specs.Ordered.{OutOf}
 use Rattle.replay.specs.Array.{Told, read, write, check, wipe, Array, zeroed, block_at, moved}
 use Rattle.replay.specs.Places.{Place, Behind}
 use Rattle.plan.specs.Puts.{PutStep}
 use Rattle.replay.specs.Run.{Fate, unheard, lost, stood, card_of, call_of, limits_of, told, heard, has_stood}
 use Rattle.replay.specs.Claim.{Forgery}
 use Rattle.host_bytes.specs.Host.{anchor_bytes, anchor_of, with_reserved, host_call, Hosts}
-use Rattle.host_bytes.specs.Journal.{host_journalled, HostsJournalled}
+use Rattle.host_bytes.specs.Journal.{host_journalled, HostsJournalled, host_recovery}
 use Rattle.host_bytes.specs.Split.{plan_bytes, tag_bytes, host_plan, HostsPlan, host_put, HostsPut}
 use Rattle.host_replay.specs.Called.{Held, bytes, anchor_in, Back, PlanCalled, PutCalled, AttemptCalled, Called, call, split, attempt}
 use Rattle.host_replay.specs.Called.{given_to, step_of, steps, last_anchor, last_card, back_of, PlanMeets, PutsMeet, AttemptMeets, Meets}
@@ -172,6 +175,14 @@ pub record SplitGoesOn (s : List ℕ) (p : PlanCalled) (qs : List PutCalled) : T
 pub record AttemptLikeWrite (s : List ℕ) (t : AttemptCalled) : Type 0 where
   pub wrote : Hosts (host_call s t.card (Calls.write t.index t.block t.ranges)) t.code t.anchor t.left t.lent
   pub raises : t.raised ≡ with_reserved s ((anchor_of s).reserved.0 + (anchor_of s).depth)
+  -- Wherever the power went while the ranges were put out: pat_recover with the final anchor and the journal brings the card to the one
+  -- that the write left, and with the raised anchor it leaves every card of that length as it is; both answer 0 and leave the anchor.
+  pub finished : (torn : List ℕ) → length torn ≡ length t.card
+      → ((j : ℕ) → OutOf (ranges_of (anchor_of s).depth t.index) j → at torn j ≡ at t.card j)
+      → (code : ℕ) (e left : List ℕ) → Hosts (host_recovery t.anchor torn t.filled) code e left []
+      → (code ≡ 0) × (e ≡ t.anchor) × (left ≡ t.left)
+  pub begun : (other : List ℕ) → length other ≡ length t.card → (code : ℕ) (e left : List ℕ)
+      → Hosts (host_recovery t.raised other t.filled) code e left [] → (code ≡ 0) × (e ≡ t.raised) × (left ≡ other)
 
 -- The anchor a that the calls of a list leave, at depth n: its reserved nonce is n times the writes and wipes that stand and the lost ones;
 -- the root nonce is at most that; both are multiples of n; and where nothing was lost the root nonce is n times those that stand.
