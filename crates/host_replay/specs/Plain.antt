@@ -24,8 +24,7 @@ use Rattle.host_bytes.specs.Journal.{host_journalled, HostsJournalled, host_reco
 use Rattle.host_bytes.specs.Split.{plan_bytes, tag_bytes, host_plan, HostsPlan, host_put, HostsPut}
 use Rattle.host_replay.specs.Called.{Held, bytes, anchor_in, Back, PlanCalled, PutCalled, AttemptCalled, Called, call, split, attempt}
 use Rattle.host_replay.specs.Called.{given_to, step_of, steps, last_anchor, last_card, back_of, PlanMeets, PutsMeet, AttemptMeets, Meets}
-use Rattle.host_replay.specs.Called
-use Rattle.host_replay.specs.Called.{begin, Form, TagsFit, Fits}
+use Rattle.host_replay.specs.Called.{begin, Form, Turn, TagsFit, Fits}
 
 -- the call; a split write and an attempt are writes
 abbrev pub called : Called → Call
@@ -262,11 +261,11 @@ pub record PlainGoesOn (left : List ℕ) : Type 0 where
   pub attempt-like-write : (s : List ℕ) → length s ≡ anchor_bytes → (t : AttemptCalled) → AttemptMeets s t → t.code ≡ 0
       → AttemptLikeWrite s t
   -- Every call and every attempt is a turn that runs, and a split write where each tag has its length.
-  pub fits-call : (form : Form) (card : List ℕ) (c : Call) → Fits (Called.Turn.call form card c)
+  pub fits-call : (form : Form) (card : List ℕ) (c : Call) → Fits (Turn.call form card c)
   pub fits-split : (card : List ℕ) (i : ℕ) (block ranges : List ℕ) (puts : List PutStep) → TagsFit puts
-      → Fits (Called.Turn.split card i block ranges puts)
+      → Fits (Turn.split card i block ranges puts)
   pub fits-attempt : (card : List ℕ) (i : ℕ) (block ranges journal : List ℕ) (fate : Fate)
-      → Fits (Called.Turn.attempt card i block ranges journal fate)
+      → Fits (Turn.attempt card i block ranges journal fate)
   -- whatever bytes the buffers of a plan and of an attempt had, and whatever plan, card, node and tag a put was given, it may stand in a
   -- history
   pub plan-meets : (s : List ℕ) (p : PlanCalled) → length p.room ≡ plan_bytes → length p.buffer ≡ message_room
