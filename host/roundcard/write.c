@@ -111,10 +111,21 @@ static int put_out(const struct request *request, const struct writing *w) {
     return status == 0 ? report(request, w, done) : status;
 }
 
+// Where the journal of the write before is not there, what is damaged may be a cut of it, and the
+// new T makes that journal an earlier one.
+static void warn_of_damage(const struct request *request, const struct writing *w) {
+    uint64_t answer = pat_check(w->anchor.bytes, w->anchor.length, w->card.bytes, w->card.length);
+    if (pat_refusal(answer) == PAT_REFUSED_TAG)
+        notice(request,
+               "warning: the card is damaged, and the journal of its last write is not beside it: "
+               "if that write was cut, no recovery brings its round back after this one");
+}
+
 // The tests of a write come in one order, whether the recovery before it or it makes them.
 static int write_block(const struct request *request, struct writing *w,
                        const struct new_block *new) {
     uint64_t answer = journal_recover(&w->anchor, &w->card, &w->journal);
+    bool misses_journal = !w->journal.applies && anchor_root(&w->anchor) != 0;
     if (answer == PAT_ACCEPTED)
         answer = pat_write_journalled(w->anchor.bytes, w->anchor.length, w->raised,
                                       sizeof w->raised, w->card.bytes, w->card.length, w->index,
@@ -126,7 +137,12 @@ static int write_block(const struct request *request, struct writing *w,
     situation.block_len = new->length;
     situation.writes = true;
     situation.journal = &w->journal;
-    return answer == 0 ? put_out(request, w) : explain_refusal(request, &situation);
+    situation.recovery = misses_journal ? MISSES_JOURNAL : NO_HELP;
+    if (answer != PAT_ACCEPTED)
+        return explain_refusal(request, &situation);
+    if (misses_journal)
+        warn_of_damage(request, w);
+    return put_out(request, w);
 }
 
 static int write_files(const struct request *request, uint64_t index, const struct new_block *new) {
