@@ -41,11 +41,11 @@ enum standing {
 enum standing journal_standing(const struct anchor *anchor, const struct card *card,
                                const struct journal *journal);
 
-// What a recovery does to a card.
+// What a journal does to a card.
 enum effect { PASSED_OVER, CHANGES_NOTHING, CHANGES };
 
-// The same of the journal that is beside the card, whose bytes in memory are then the recovered
-// ones. It reports nothing: a journal that cannot be read is passed over.
+// What the one beside the card does to it; the card in memory is then the recovered one. It reports
+// nothing: a journal that cannot be read is passed over.
 enum effect journal_effect(const struct anchor *anchor, struct card *card);
 
 // Removes the file, for a card on which nothing is to be recovered any more, and what a cut left
