@@ -169,7 +169,7 @@ class WriteCuts(FaultCase):
     def test_two_cuts(self):
         steps = len(self.expected_steps())
         for first in range(0, steps, 6):
-            for second in range(first // 6 % 2, steps, 2):
+            for second in range(first // 6 % 2, steps + 2 + len(self.ranges), 2):
                 self.start_again()
                 self.run_with(f"any:{first + 1}:cut", *self.words)
                 self.run_with(f"any:{second + 1}:cut", *self.words)
