@@ -151,6 +151,8 @@ class Recover(ToolCase):
     def test_nothing_takes_the_journal_s_place(self):
         self.place()
         last, name = (self.anchor, self.card), self.journal.name
+        (self.room / "other").mkdir()
+        self.accepted("read", "--output", f"other/{name}", *last, "5")
         for there in (True, False):
             for output in (name, f"./{name}", self.journal):
                 self.fails(USAGE, "read", "--output", output, *last, "1", says=["is the card's journal"])
