@@ -151,8 +151,6 @@ class Recover(ToolCase):
     def test_nothing_takes_the_journal_s_place(self):
         self.place()
         last, name = (self.anchor, self.card), self.journal.name
-        (self.room / "other").mkdir()
-        self.accepted("read", "--output", f"other/{name}", *last, "5")
         for there in (True, False):
             for output in (name, f"./{name}", self.journal):
                 self.fails(USAGE, "read", "--output", output, *last, "1", says=["is the card's journal"])
@@ -164,6 +162,8 @@ class Recover(ToolCase):
                 self.fails(USAGE, "read", "--output", "link", *last, "1", says=["is the card's journal"])
                 (self.room / "link").unlink()
                 self.journal.unlink()
+        (self.room / "other").mkdir()
+        self.accepted("read", "--output", f"other/{name}", *last, "5")
 
     def test_reads_do_not_change_the_card(self):
         self.place(card=self.old)
