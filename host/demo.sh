@@ -75,8 +75,9 @@ said 'van 7: round 12, Old Mill'
 run 0 check box.anchor box.card
 
 say 'A driver switches the box off in the middle of a write. It goes out in four steps: the anchor with
-# H raised, a journal, the anchor with the new T, the ranges of the card. Here three ranges are out.'
-unplug pwrite:4 write --text 'van 2: round 4, Quayside' box.anchor box.card 1
+# H raised, a journal, the anchor with the new T, the ranges of the card. Here three ranges are out,
+# behind the six of the write before, which every write puts out once more.'
+unplug pwrite:10 write --text 'van 2: round 4, Quayside' box.anchor box.card 1
 run 8 read --text box.anchor box.card 1
 said "'roundcard recover' puts its bytes in their places, and mends it"
 

@@ -50,16 +50,19 @@
 // 2. the journal, in the place of the old one;
 // 3. the new anchor, in the place of the raised one: now T is the new one too;
 // 4. the ranges of the card, and no other byte of it.
-// An anchor must be replaced whole: a cut leaves the one before or the one after. Every other byte
-// that is being written at a cut may be left old, new or as junk; those that are not must stand.
+// An anchor must be replaced whole: a cut leaves the one before or the one after. Of two that are
+// stored, the later has the greater H, and of equal H the greater T. Every other byte that is being
+// written at a cut may be left old, new or as junk; those that are not must stand.
 //
 // After a cut the host gives anchor, card and journal as they are on their media to pat_recover,
-// and copies the ranges that it changed back to the card. Then the card is the one of before the
-// write where T is the old one, and the one of after it where T is the new one. A recovery that is
-// cut is made anew: one has to be finished, all its bytes on the card for good, between a cut and
-// the next write, plan or wipe. Where nothing is left to do it changes nothing, so that a host may
-// recover whenever it starts. Whoever alters the card or the journal meanwhile can keep a recovery
-// from that, and do no more: what a read accepts is right all the same.
+// and puts the journal's ranges out to the card, as is said there. Then the card is the one of
+// before the write where T is the old one, and the one of after it where T is the new one. A step
+// that fails is a cut, though the power stays: throw away anchor and card in memory, load what is
+// on the media, and recover. A recovery that is cut is made anew: one has to be finished, all its
+// bytes on the card for good, between a cut and the next write, plan or wipe. Where nothing is left
+// to do it changes nothing, so that a host may recover whenever it starts. Whoever alters the card
+// or the journal meanwhile can keep a recovery from that, and do no more: what a read accepts is
+// right all the same.
 //
 // A plain write, a split write and a wipe have no journal. Where power fails after their new anchor
 // is stored and before the whole card is, the card may be refused with 8, and no recovery helps.
@@ -153,13 +156,12 @@ extern "C" {
 // for each tag of a block. That is 2 * depth + 4 for a read, 8 * depth + 8 for a write, in place
 // and with a journal too, 7 * 2^depth - 3 for a check and for a wipe, and 4 * depth + 2 for a plan.
 // The CMAC of a journal, over all of it but its last 16 bytes, is not in these numbers, and a
-// recovery has none. The plan's tags
-// are made by the engines, which need 4 * depth + 6 calls for all of them, the subkeys being
-// counted with the plan: plan and engines together make the write's 8 * depth + 8. An engine makes
-// the subkeys once for its key, which is one call more. A put makes none. A refusal with 8 makes
-// those up to and with the wrong tag, and so never more than these; every other refusal makes none.
-// 0 for a depth that is not 1 to 16. Constant expressions where the depth is one; the depth is
-// evaluated more than once.
+// recovery has none. The plan's tags are made by the engines, which need 4 * depth + 6 calls for
+// all of them, the subkeys being counted with the plan: plan and engines together make the write's
+// 8 * depth + 8. An engine makes the subkeys once for its key, which is one call more. A put makes
+// none. A refusal with 8 makes those up to and with the wrong tag, and so never more than these;
+// every other refusal makes none. 0 for a depth that is not 1 to 16. Constant expressions where the
+// depth is one; the depth is evaluated more than once.
 #define PAT_AES_READ(depth)                                                                        \
     ((depth) >= 1 && (depth) <= PAT_MAX_DEPTH ? (size_t)2 * (size_t)(depth) + 4 : (size_t)0)
 #define PAT_AES_WRITE(depth)                                                                       \
@@ -349,11 +351,12 @@ uint64_t pat_write(uint8_t *anchor, size_t anchor_len, uint8_t *card, size_t car
 // fills the journal. The four steps in which all of this goes out are at the head of this file. The
 // order is what the promise rests on: with the journal out before H is raised, a lost write's
 // nonces could be used again; with T out before the journal, or the ranges before T, the card could
-// be lost.
+// be lost. A step that fails is a cut, as is said there.
 //
 // The raised anchor and the journal are new bytes in memory of the caller's own; what was in them
-// before plays no part. Before the next write, plan or wipe the card has to be settled: all ranges
-// of the last write on it for good, by that write's own fourth step or by a finished recovery.
+// before plays no part. The raised anchor has the key too. Before the next write, plan or wipe the
+// card has to be settled: all ranges of the last write on it for good, by that write's own fourth
+// step or by a finished recovery.
 //
 // Refused 5: the anchor or the raised one has not 40 bytes. 1: depth. 2: T or H. 3: card length.
 // 10: the journal has not PAT_JOURNAL_BYTES(depth) bytes. 4: block number. 5: the block has not 64
@@ -367,9 +370,14 @@ uint64_t pat_write_journalled(uint8_t *anchor, size_t anchor_len, uint8_t *raise
 // tag is right. Any other journal, one of zeros too, is passed over: the answer is 0 and nothing
 // changes. It looks at no byte of the card, and alters neither anchor nor journal.
 //
-// The host copies what it changed to the card's medium: the journal's list of ranges, at
-// PAT_JOURNAL_RANGES, if the card in memory has changed, and no byte otherwise. The anchor has to
-// be on its medium for good before. Where there is no journal there is nothing to recover.
+// The host puts the ranges of a journal that applies, listed at PAT_JOURNAL_RANGES, out to the
+// card's medium and syncs it, even if nothing changed: after a sync that failed, a card that is
+// read through a cache can have bytes that are on no medium. The anchor has to be on its medium for
+// good before. Where no journal was ever written there is nothing to recover.
+//
+// The answer does not say whether the journal applies. It does if the card changed, and else if a
+// recovery of a copy with every bit flipped changes that copy. Never follow the list of ranges of a
+// journal that changed neither: it may be anybody's. To write the whole card out needs no list.
 //
 // It does not check the card. One that was damaged besides, or is of another time, is refused with
 // 8 after it as before.
@@ -466,7 +474,8 @@ uint64_t pat_plan(uint8_t *anchor, size_t anchor_len, uint8_t *card, size_t card
 // neither write nor plan looks at.
 //
 // It has an answer for a plan of any bytes and looks at no byte of the card. T becomes whatever
-// such a plan says.
+// such a plan says. If that is above H or no multiple of the depth, every call but a format refuses
+// the anchor with 2, a wipe too.
 //
 // Refused 5: the anchor has not 40 bytes, the plan not 24 or the tag not 16. 1: depth. 2: T or H.
 // 3: card length. 9: the plan's block number is 2^depth or above, the node is none of the plan's,

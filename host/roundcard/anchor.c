@@ -5,6 +5,7 @@
 #include <errno.h>
 #include <fcntl.h>
 #include <inttypes.h>
+#include <stdio.h>
 #include <string.h>
 #include <sys/file.h>
 #include <unistd.h>
@@ -19,6 +20,13 @@ uint64_t anchor_root(const struct anchor *anchor) {
 
 uint64_t anchor_reserved(const struct anchor *anchor) {
     return pat_get_number(anchor->bytes + PAT_ANCHOR_RESERVED);
+}
+
+void tell_lost_attempts(char *text, size_t size, uint64_t count) {
+    if (count < 2)
+        snprintf(text, size, "%s", count == 0 ? "" : "an attempt after the last change was lost");
+    else
+        snprintf(text, size, "%" PRIu64 " attempts after the last change were lost", count);
 }
 
 void warn_if_open(const struct request *request, const char *path, const struct stat *status) {

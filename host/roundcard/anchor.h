@@ -41,4 +41,8 @@ uint64_t anchor_depth(const struct anchor *anchor);
 uint64_t anchor_root(const struct anchor *anchor);
 uint64_t anchor_reserved(const struct anchor *anchor);
 
+// Says how many attempts were lost after the last change: each took one depth of nonces from T up
+// to H. Empty where none was.
+void tell_lost_attempts(char *text, size_t size, uint64_t count);
+
 #endif

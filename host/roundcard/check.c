@@ -92,13 +92,17 @@ static int check_all(const struct request *request, const struct anchor *anchor,
 
 // What a recovery would do for a check that is refused for a tag.
 static enum recovery seek_recovery(const struct anchor *anchor, const struct card *card) {
-    enum recovery found = CHANGES_NOTHING;
+    enum recovery found = NO_HELP;
     struct card recovered = card_copy(card);
-    if (recovered.bytes != NULL && journal_would_change(anchor, &recovered))
+    enum effect effect =
+        recovered.bytes == NULL ? CHANGES_NOTHING : journal_effect(anchor, &recovered);
+    if (effect == CHANGES)
         found = pat_check(anchor->bytes, anchor->length, recovered.bytes, recovered.length) ==
                         PAT_ACCEPTED
                     ? HELPS
                     : MAY_HELP;
+    else if (effect == PASSED_OVER && anchor_root(anchor) != 0)
+        found = MISSES_JOURNAL;
     free(recovered.bytes);
     return found;
 }

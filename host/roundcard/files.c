@@ -122,6 +122,24 @@ static char *directory_of(const char *path) {
     return slash == NULL ? strdup(".") : strndup(path, (size_t)(slash - path) + 1);
 }
 
+bool same_place(const char *one, const char *other) {
+    struct stat first, second;
+    bool there = stat(one, &first) == 0;
+    if (there != (stat(other, &second) == 0))
+        return false;
+    if (there)
+        return same_file(&first, &second);
+    const char *slash = strrchr(one, '/'), *other_slash = strrchr(other, '/');
+    if (strcmp(slash == NULL ? one : slash + 1, other_slash == NULL ? other : other_slash + 1) != 0)
+        return false;
+    char *directory = directory_of(one), *other_directory = directory_of(other);
+    bool same = directory != NULL && other_directory != NULL && stat(directory, &first) == 0 &&
+                stat(other_directory, &second) == 0 && same_file(&first, &second);
+    free(directory);
+    free(other_directory);
+    return same;
+}
+
 static int open_directory_of(const char *path) {
     char *directory = directory_of(path);
     if (directory == NULL)

@@ -36,6 +36,9 @@ bool can_be_replaced(const char *path);
 
 bool same_file(const struct stat *one, const struct stat *other);
 
+// Whether the two names are of one file, which need not be there yet.
+bool same_place(const char *one, const char *other);
+
 // A file that is made new, or that takes another's place whole. Each step gives false with errno.
 struct replacement {
     char *path;    // the file; where it is there already, with links resolved

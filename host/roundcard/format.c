@@ -100,6 +100,9 @@ static int look_for_journal(const struct request *request, struct making *m) {
     m->journal = journal_path(request->words[1]);
     if (m->journal == NULL)
         return system_failure(request, "no memory for the journal");
+    if (same_place(request->words[0], m->journal))
+        return failure(request, STATUS_USAGE, "the anchor %s would be the card's journal",
+                       request->words[0]);
     if (request->options[OPTION_FORCE] == NULL && lstat(m->journal, &status) == 0)
         return failure(request, STATUS_FILE,
                        "the journal file %s is there already, of a card that was here; --force "

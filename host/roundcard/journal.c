@@ -66,24 +66,38 @@ static uint64_t recover(const struct anchor *anchor, uint8_t *card, size_t lengt
     return pat_recover(anchor->bytes, anchor->length, card, length, journal->bytes, journal_length);
 }
 
+// Whether its tag is right: the library applies it then, under an anchor with the journal's own T.
+// That changes the card it is tried on, which has nowhere the first of the journal's new bytes.
+static bool has_right_tag(const struct anchor *anchor, size_t length,
+                          const struct journal *journal) {
+    struct anchor own = *anchor;
+    const uint8_t *root = journal->bytes + PAT_JOURNAL_ROOT;
+    memcpy(own.bytes + PAT_ANCHOR_ROOT, root, sizeof(uint64_t));
+    memcpy(own.bytes + PAT_ANCHOR_RESERVED, root, sizeof(uint64_t));
+    uint64_t depth = anchor_depth(anchor);
+    uint8_t fill = (uint8_t)~journal->bytes[PAT_JOURNAL_RANGES + PAT_RANGE_BYTES(depth)];
+    memset(scratch, fill, length);
+    bool right = false;
+    if (recover(&own, scratch, length, journal) == PAT_ACCEPTED)
+        for (size_t k = 0; k < length && !right; k++)
+            right = scratch[k] != fill;
+    explicit_bzero(own.bytes, sizeof own.bytes);
+    return right;
+}
+
+static uint64_t root_of(const struct journal *journal) {
+    return pat_get_number(journal->bytes + PAT_JOURNAL_ROOT);
+}
+
 uint64_t journal_recover(const struct anchor *anchor, struct card *card, struct journal *journal) {
     size_t length = card->length < sizeof scratch ? card->length : sizeof scratch;
     memcpy(scratch, card->bytes, length);
     uint64_t answer = recover(anchor, card->bytes, card->length, journal);
     journal->pending = memcmp(scratch, card->bytes, length) != 0;
+    journal->applies = journal->pending || (answer == PAT_ACCEPTED && journal->there &&
+                                            root_of(journal) == anchor_root(anchor) &&
+                                            has_right_tag(anchor, card->length, journal));
     return answer;
-}
-
-// Whether the library applies it to a card of these bytes, none of which it has itself.
-static bool changes(const struct anchor *anchor, size_t length, const struct journal *journal,
-                    int byte) {
-    memset(scratch, byte, length);
-    if (recover(anchor, scratch, length, journal) != PAT_ACCEPTED)
-        return false;
-    for (size_t k = 0; k < length; k++)
-        if (scratch[k] != (uint8_t)byte)
-            return true;
-    return false;
 }
 
 // A journal of zeros is none.
@@ -98,22 +112,23 @@ enum standing journal_standing(const struct anchor *anchor, const struct card *c
                                const struct journal *journal) {
     if (is_none(journal))
         return NO_JOURNAL;
-    if (journal->pending)
-        return PUT_IN_PLACE;
-    uint64_t root = pat_get_number(journal->bytes + PAT_JOURNAL_ROOT);
-    if (root != anchor_root(anchor))
-        return root < anchor_root(anchor) ? EARLIER_WRITE : LOST_WRITE;
-    return changes(anchor, card->length, journal, 0) || changes(anchor, card->length, journal, 0xff)
-               ? IN_PLACE
-               : WRONG_TAG;
+    if (journal->applies)
+        return journal->pending ? PUT_IN_PLACE : IN_PLACE;
+    if (!has_right_tag(anchor, card->length, journal))
+        return WRONG_TAG;
+    if (root_of(journal) > anchor_reserved(anchor))
+        return LATER_WRITE;
+    return root_of(journal) < anchor_root(anchor) ? EARLIER_WRITE : LOST_WRITE;
 }
 
-bool journal_would_change(const struct anchor *anchor, struct card *card) {
+enum effect journal_effect(const struct anchor *anchor, struct card *card) {
     struct journal journal;
-    bool would = take(&journal, card->path) &&
-                 journal_recover(anchor, card, &journal) == PAT_ACCEPTED && journal.pending;
+    enum effect effect = PASSED_OVER;
+    if (take(&journal, card->path) && journal_recover(anchor, card, &journal) == PAT_ACCEPTED &&
+        journal.applies)
+        effect = journal.pending ? CHANGES : CHANGES_NOTHING;
     journal_close(&journal);
-    return would;
+    return effect;
 }
 
 static bool unlinked(const char *path) {

@@ -11,7 +11,8 @@ struct journal {
     uint8_t bytes[PAT_MAX_JOURNAL_BYTES + 1];
     size_t
         length; // of the bytes read, one more than the longest journal's for a file that is longer
-    bool pending; // not all of its bytes were on the card
+    bool applies; // it is the last write's: its T is the anchor's, and its tag is right
+    bool pending; // it applies, and not all of its bytes were on the card
 };
 
 // Where the journal of that card is, in memory that the caller frees, NULL with errno.
@@ -29,9 +30,10 @@ uint64_t journal_recover(const struct anchor *anchor, struct card *card, struct 
 // What a journal is to a card that was recovered in memory.
 enum standing {
     NO_JOURNAL,
+    WRONG_TAG,     // it is damaged or another card's
     EARLIER_WRITE, // its T is below the anchor's
     LOST_WRITE,    // its T is above the anchor's: that write was cut before its new T stood
-    WRONG_TAG,     // it has the anchor's T, and is damaged or another card's
+    LATER_WRITE,   // its T is above the anchor's H: the anchor is an old one
     IN_PLACE,      // all of its bytes were on the card
     PUT_IN_PLACE   // they were not
 };
@@ -39,9 +41,12 @@ enum standing {
 enum standing journal_standing(const struct anchor *anchor, const struct card *card,
                                const struct journal *journal);
 
-// Whether a recovery of the card would change it; the card in memory is then the recovered one. It
-// reports nothing: where it cannot see that, it is not so.
-bool journal_would_change(const struct anchor *anchor, struct card *card);
+// What a journal does to a card.
+enum effect { PASSED_OVER, CHANGES_NOTHING, CHANGES };
+
+// What the one beside the card does to it; the card in memory is then the recovered one. It reports
+// nothing: a journal that cannot be read is passed over.
+enum effect journal_effect(const struct anchor *anchor, struct card *card);
 
 // Removes the file, for a card on which nothing is to be recovered any more, and what a cut left
 // beside it. Warns where that fails: a journal has a round.

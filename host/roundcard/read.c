@@ -74,12 +74,16 @@ static int refuse(const struct request *request, const struct anchor *anchor, st
     if (pat_refusal(situation->answer) != PAT_REFUSED_TAG)
         return explain_refusal(request, situation);
     struct card recovered = card_copy(card);
-    if (recovered.bytes != NULL && journal_would_change(anchor, &recovered))
+    enum effect effect =
+        recovered.bytes == NULL ? CHANGES_NOTHING : journal_effect(anchor, &recovered);
+    if (effect == CHANGES)
         situation->recovery =
             pat_read(anchor->bytes, anchor->length, recovered.bytes, recovered.length,
                      situation->index, block, sizeof block) == PAT_ACCEPTED
                 ? HELPS
                 : MAY_HELP;
+    else if (effect == PASSED_OVER && situation->root != 0)
+        situation->recovery = MISSES_JOURNAL;
     free(recovered.bytes);
     return explain_refusal(request, situation);
 }

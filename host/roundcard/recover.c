@@ -7,6 +7,7 @@
 #include "refusal.h"
 #include "report.h"
 #include "store.h"
+#include "text.h"
 
 #include <inttypes.h>
 #include <stdio.h>
@@ -15,16 +16,39 @@
 static const struct {
     const char *word, *sentence;
 } standings[] = {
-    [NO_JOURNAL] = {"none", "there is no journal: no write to this card was cut"},
+    [NO_JOURNAL] = {"none", "there is no journal, and none is needed: T is 0"},
+    [WRONG_TAG] = {"wrong tag", "the journal has a wrong tag: it is damaged, or another card's. "
+                                "Where 'roundcard check' finds the card whole, it is not needed"},
     [EARLIER_WRITE] = {"earlier write",
                        "the journal is of an earlier write than the anchor's last change"},
     [LOST_WRITE] = {"lost write", "the last write was cut before its new T stood, and the card was "
                                   "not touched: write the block again"},
-    [WRONG_TAG] = {"wrong tag", "the journal has a wrong tag: it is damaged, or another card's. "
-                                "Where 'roundcard check' finds the card whole, it is not needed"},
+    [LATER_WRITE] = {"later write", "the anchor is older than the journal: use the last one"},
     [IN_PLACE] = {"in place", "all bytes of the last write are in their places"},
     [PUT_IN_PLACE] = {"put in place", "the bytes of the last write are put in their places"},
 };
+
+// Nothing to do, and why. Without its journal a write that was cut cannot be told from damage.
+static void print_nothing(const struct anchor *anchor, const struct journal *journal,
+                          enum standing standing) {
+    uint64_t root = anchor_root(anchor);
+    uint64_t count = (anchor_reserved(anchor) - root) / anchor_depth(anchor);
+    char lost[80];
+    tell_lost_attempts(lost, sizeof lost, count);
+    printf("nothing to do: ");
+    if (standing == NO_JOURNAL && root != 0) {
+        printf("%s; if its last write was cut, put ",
+               journal->there ? "the journal beside the card is all zeros"
+                              : "there is no journal beside the card");
+        print_name(journal->path);
+        printf(" of that write back before anything is written");
+    } else {
+        printf("%s", standings[standing].sentence);
+    }
+    if (count > (standing == LOST_WRITE))
+        printf("; %s: write %s again", lost, count == 1 ? "its block" : "their blocks");
+    putchar('\n');
+}
 
 static int report(const struct request *request, const struct anchor *anchor,
                   const struct journal *journal, enum standing standing) {
@@ -42,9 +66,7 @@ static int report(const struct request *request, const struct anchor *anchor,
         printf("recovered: %s; %zu ranges of the card changed\n", standings[standing].sentence,
                PAT_RANGES(depth));
     } else {
-        bool lost = standing != LOST_WRITE && anchor_reserved(anchor) != anchor_root(anchor);
-        printf("nothing to do: %s%s\n", standings[standing].sentence,
-               lost ? "; an attempt after the last change was lost: write its block again" : "");
+        print_nothing(anchor, journal, standing);
     }
     return changed ? finish_after(request, "the card is recovered") : finish_output(request);
 }
@@ -89,6 +111,9 @@ static const char help[] =
     "journal, CARD.roundcard-journal, are put in their places on the card image. Else the\n"
     "card was not touched, and nothing is to be done. It says which it was. A recovery that\n"
     "is cut is made again. Every write and wipe recovers first, by itself.\n"
+    "\n"
+    "Without a journal of the last write it cannot see whether that write was cut: if it was,\n"
+    "put that journal back before anything is written.\n"
     "\n"
     "It checks no tag of the card: what was damaged besides is still refused with 8. After a\n"
     "wipe that was cut it has nothing to do: wipe the card again.\n"

@@ -23,9 +23,10 @@ static const struct remedy remedies[] = {
     [PAT_REFUSED_RANGE_LENGTH] = {software, "give a range buffer of 16 bytes for each level"},
     [PAT_REFUSED_SPENT] = {anchor, "format a card under a new key, and write the rounds there"},
     [PAT_REFUSED_TAG] = {holder, "put back the card as format, write or wipe last left it"},
-    [PAT_REFUSED_JOURNAL] = {keeper,
-                             "put back the journal as the last write left it; where 'roundcard "
-                             "check' finds the card whole, or it is wiped, remove the journal"},
+    [PAT_REFUSED_JOURNAL] =
+        {keeper, "put back the journal as the last write left it; where 'roundcard "
+                 "check' finds the card whole, or it is wiped, remove the journal; if it "
+                 "is lost, remove it, and see with 'check --all' what is still read"},
 };
 
 struct situation situation_of(const struct anchor *anchor_file, const struct card *card) {
@@ -169,9 +170,17 @@ static const char *remark(uint64_t node) {
     return node < 4 ? " (a card of another time than its anchor is refused here)" : "";
 }
 
+// What helps first. A card that is carried without its journal may have a write that was cut.
+static const char *put_back(const struct situation *s) {
+    return s->recovery == MISSES_JOURNAL
+               ? "put back the card as format, write or wipe last left it, or put the journal of "
+                 "its last write beside it and recover it"
+               : remedies[PAT_REFUSED_TAG].advice;
+}
+
 // More on the wrong tag of a block: it can be replaced where a write of it is accepted.
 static void advise_on_block(char *text, const struct situation *s, uint64_t node) {
-    const char *plain = remedies[PAT_REFUSED_TAG].advice;
+    const char *plain = put_back(s);
     uint64_t index = node - ((uint64_t)1 << s->depth), hindrance = write_refused_at(s, node);
     if (hindrance == 0 && s->writes)
         snprintf(text, LONGEST, "%s, or write block %" PRIu64 " first and then block %" PRIu64,
@@ -205,8 +214,8 @@ static void advise_on_tag(char *text, const struct situation *s) {
     else if (node >> s->depth != 0)
         advise_on_block(text, s, node);
     else
-        snprintf(text, LONGEST, "%s%s; no write mends it: %s", remedies[PAT_REFUSED_TAG].advice,
-                 remark(node), else_help);
+        snprintf(text, LONGEST, "%s%s; no write mends it: %s", put_back(s), remark(node),
+                 else_help);
 }
 
 // Whether the library can have given the answer: a node with 8 alone, and one that the card has,

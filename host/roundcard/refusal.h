@@ -7,8 +7,9 @@
 #include "journal.h"
 #include "report.h"
 
-// What a recovery would do for a call that is refused for a tag.
-enum recovery { CHANGES_NOTHING, MAY_HELP, HELPS };
+// What a recovery would do for a call that is refused for a tag: nothing, or nothing since the
+// journal of the last write is not there, or it helps.
+enum recovery { NO_HELP, MISSES_JOURNAL, MAY_HELP, HELPS };
 
 // What a call was given.
 struct situation {

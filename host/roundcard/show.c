@@ -26,11 +26,12 @@ static uint64_t limit(const struct situation *s, bool with_card) {
 static int report(const struct request *request, const struct situation *s) {
     if (request->options[OPTION_JSON] == NULL) {
         uint64_t blocks = (uint64_t)1 << s->depth;
+        char lost[80];
+        tell_lost_attempts(lost, sizeof lost, (s->reserved - s->root) / s->depth);
         printf("depth         %" PRIu64 "\n", s->depth);
         printf("blocks        %" PRIu64 ", numbers 0 to %" PRIu64 "\n", blocks, blocks - 1);
         printf("root nonce T  %" PRIu64 "\n", s->root);
-        printf("reserved H    %" PRIu64 "%s\n", s->reserved,
-               s->reserved == s->root ? "" : ": an attempt after the last change was lost");
+        printf("reserved H    %" PRIu64 "%s%s\n", s->reserved, *lost == '\0' ? "" : ": ", lost);
         printf("changes made  %" PRIu64
                ", writes and wipes together, and attempts that were lost\n",
                s->reserved / s->depth);

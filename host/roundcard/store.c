@@ -31,15 +31,15 @@ static const char *left(const struct outgoing *out) {
                                  : "nothing is changed";
 }
 
-// Puts what is pending in its place, and sees that all of the card stands: another process may have
-// been ended before it did. The anchor that it goes with has to stand first.
+// Puts the last write's bytes in their places, and sees that all of the card stands: another
+// process may have been ended before it did. They go out even where the card was read with them:
+// after a sync that failed, what is read may be on no medium, and another sync alone would not put
+// it there. The anchor that they go with has to stand first.
 static bool settle(const struct outgoing *out) {
-    const struct journal *journal = out->journal;
-    if (journal->pending &&
-        (fsync(out->anchor->file) != 0 || !sync_directory_of(out->anchor->path) ||
-         !card_put_journal(out->card, journal->bytes, anchor_depth(out->anchor))))
-        return false;
-    return fsync(out->card->file) == 0;
+    if (!out->journal->applies)
+        return fsync(out->card->file) == 0;
+    return fsync(out->anchor->file) == 0 && sync_directory_of(out->anchor->path) &&
+           card_put_journal(out->card, out->journal->bytes, anchor_depth(out->anchor));
 }
 
 // What can be seen to fail before anything is changed, and then the recovery.
@@ -50,7 +50,7 @@ static int begin(const struct request *request, const struct outgoing *out, uint
     if (settle(out))
         return 0;
     return system_failure(request, "cannot write the card image %s%s", card,
-                          out->journal->pending ? " whole: 'roundcard recover' tries again"
+                          out->journal->applies ? " whole: 'roundcard recover' tries again"
                                                 : "; nothing is changed");
 }
 
@@ -75,11 +75,13 @@ static bool put_journal(const struct outgoing *out, const uint8_t *bytes) {
 }
 
 // A write that failed before its T could stand.
-static int lost(const struct request *request, const char *what, const char *path) {
-    return system_failure(request,
-                          "cannot replace the %s %s; the block is not written, and the card is as "
-                          "it was: H alone is raised",
-                          what, path);
+static int lost(const struct request *request, const struct outgoing *out, const char *what,
+                const char *path) {
+    return system_failure(
+        request, "cannot replace the %s %s; the block is not written%s", what, path,
+        out->journal->pending ? ": H is raised, the last write is recovered, and nothing else is "
+                                "changed"
+                              : ", and the card is as it was: H alone is raised");
 }
 
 // One that failed after it.
@@ -104,12 +106,12 @@ static int put_steps(const struct request *request, const struct outgoing *out,
     if (raised == NOT_REPLACED)
         return not_replaced(request, out);
     if (raised == NOT_SYNCED)
-        return lost(request, "anchor file", anchor);
+        return lost(request, out, "anchor file", anchor);
     if (!put_journal(out, steps->journal))
-        return lost(request, "journal file", out->journal->path);
+        return lost(request, out, "journal file", out->journal->path);
     enum put last = put_anchor(&new[1], anchor, out->anchor->bytes);
     if (last == NOT_REPLACED)
-        return lost(request, "anchor file", anchor);
+        return lost(request, out, "anchor file", anchor);
     if (last == NOT_SYNCED ||
         !card_put_journal(out->card, steps->journal, anchor_depth(out->anchor)))
         return cut_short(request, out, "'roundcard recover' puts the rest in place");

@@ -45,10 +45,9 @@ static void end(struct wiping *w) {
 }
 
 // Lets the library recover the card in memory, as before every change. A journal that is refused
-// cannot keep anybody from a wipe, which keeps nothing of the card.
+// changes nothing, and cannot keep anybody from a wipe, which keeps nothing of the card.
 static void recover(struct wiping *w) {
-    if (journal_recover(&w->anchor, &w->card, &w->journal) != PAT_ACCEPTED)
-        w->journal.pending = false;
+    (void)journal_recover(&w->anchor, &w->card, &w->journal);
 }
 
 // Lets it wipe card and anchor in memory.

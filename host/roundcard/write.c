@@ -111,10 +111,21 @@ static int put_out(const struct request *request, const struct writing *w) {
     return status == 0 ? report(request, w, done) : status;
 }
 
+// Where the journal of the write before is not there, what is damaged may be a cut of it, and the
+// new T makes that journal an earlier one.
+static void warn_of_damage(const struct request *request, const struct writing *w) {
+    uint64_t answer = pat_check(w->anchor.bytes, w->anchor.length, w->card.bytes, w->card.length);
+    if (pat_refusal(answer) == PAT_REFUSED_TAG)
+        notice(request,
+               "warning: the card is damaged, and the journal of its last write is not beside it: "
+               "if that write was cut, no recovery brings its round back after this one");
+}
+
 // The tests of a write come in one order, whether the recovery before it or it makes them.
 static int write_block(const struct request *request, struct writing *w,
                        const struct new_block *new) {
     uint64_t answer = journal_recover(&w->anchor, &w->card, &w->journal);
+    bool misses_journal = !w->journal.applies && anchor_root(&w->anchor) != 0;
     if (answer == PAT_ACCEPTED)
         answer = pat_write_journalled(w->anchor.bytes, w->anchor.length, w->raised,
                                       sizeof w->raised, w->card.bytes, w->card.length, w->index,
@@ -126,7 +137,12 @@ static int write_block(const struct request *request, struct writing *w,
     situation.block_len = new->length;
     situation.writes = true;
     situation.journal = &w->journal;
-    return answer == 0 ? put_out(request, w) : explain_refusal(request, &situation);
+    situation.recovery = misses_journal ? MISSES_JOURNAL : NO_HELP;
+    if (answer != PAT_ACCEPTED)
+        return explain_refusal(request, &situation);
+    if (misses_journal)
+        warn_of_damage(request, w);
+    return put_out(request, w);
 }
 
 static int write_files(const struct request *request, uint64_t index, const struct new_block *new) {
@@ -172,10 +188,11 @@ static const char help[] =
     "It goes out in four steps, each synced before the next: the anchor file with H raised,\n"
     "the journal file beside the card image, the anchor file with the new T, the changed\n"
     "ranges of the card image. The two files are replaced whole, and one write at a time is\n"
-    "made. A cut at any moment loses nothing: the next write or wipe, or 'roundcard recover',\n"
-    "leaves the card as it was before the write where T is the old one, and as the write\n"
-    "made it where T is the new one. Until then reads may be refused with 8. All signals\n"
-    "that can be held back wait until all is out.\n"
+    "made. A cut at any moment loses at most this block: the next write, or 'roundcard\n"
+    "recover', leaves the card as it was before the write where T is the old one, and as the\n"
+    "write made it where T is the new one. Until then reads may be refused with 8. Without\n"
+    "its journal beside it a card that was cut is a damaged one: a write that finds that\n"
+    "warns, and goes on. All signals that can be held back wait until all is out.\n"
     "\n"
     "Refused 5: the anchor file has not 40 bytes. 1: depth. 2: T or H. 3: card length.\n"
     "10: the journal of the write before. 4: block number. 5: the block has not 64 bytes.\n"

@@ -44,7 +44,7 @@ class CommandLine(ToolCase):
 
     def test_write_says_what_a_cut_leaves(self):
         output = " ".join(self.accepted("help", "write").decode().split())
-        for part in ("four steps, each synced before the next", "A cut at any moment loses nothing", "'roundcard recover'"):
+        for part in ("four steps, each synced before the next", "A cut at any moment loses at most this block", "'roundcard recover'"):
             self.assertIn(part, output)
 
     def test_recover_says_what_it_cannot_do(self):

@@ -4,12 +4,12 @@ recovery leaves the old card where T is the old one and the new card where it is
 import random
 import unittest
 
-from support import FAULTS, KEY, Card, ToolCase, block
+from support import KEY, Card, ToolCase, block
 
 OLD, NEW, JUNK = range(3)
 
-# The tool with sanitizers is slower, and gets a part of the tears.
-PART = 1 if FAULTS else 7
+# A part of the tears: the tests of the calls have all of them.
+PART = 7
 
 
 class Junk(ToolCase):

@@ -208,7 +208,7 @@ class Read(ToolCase):
         self.model.lose()
         self.put(self.model)
         lines = self.lines_of(self.accepted("show", self.anchor))
-        self.assertEqual((lines["root nonce T"], lines["reserved H"]), ("15", "21: an attempt after the last change was lost"))
+        self.assertEqual((lines["root nonce T"], lines["reserved H"]), ("15", "21: 2 attempts after the last change were lost"))
         self.assertEqual(lines["changes made"].split(",")[0], "7")
         report = self.report("show", self.anchor, self.card)
         self.assertEqual((report["root_nonce"], report["reserved_nonce"], report["changes"]), (15, 21, 7))

@@ -1,11 +1,12 @@
 """roundcard recover, and what the other commands do with a journal: of the last write, of others, of other lengths, and of no write."""
 
+import fcntl
 import os
 import shutil
 import stat
 import unittest
 
-from support import FILE, KEY, Card, Cmac, ToolCase, block, packed
+from support import FILE, KEY, USAGE, Card, Cmac, ToolCase, block, packed
 
 
 class Recover(ToolCase):
@@ -33,6 +34,10 @@ class Recover(ToolCase):
         self.assertEqual(self.files(), before)
         return report
 
+    def put_back(self):
+        name = self.journal.resolve()
+        return f"if its last write was cut, put {name} of that write back before anything is written"
+
     def test_a_write_that_was_cut(self):
         self.place(card=self.old)
         says = "recovered: the bytes of the last write are put in their places; 6 ranges of the card changed\n"
@@ -53,28 +58,38 @@ class Recover(ToolCase):
         later = "; an attempt after the last change was lost: write its block again"
         raised = self.model.anchor()[:32] + (12).to_bytes(8, "big")
         self.nothing("in place", "all bytes of the last write are in their places" + later, anchor=raised)
+        later = "; 2 attempts after the last change were lost: write their blocks again"
+        raised = self.model.anchor()[:32] + (15).to_bytes(8, "big")
+        self.nothing("in place", "all bytes of the last write are in their places" + later, anchor=raised)
+        raised = self.raised[:32] + (12).to_bytes(8, "big")
+        self.nothing("lost write", lost + later, card=self.old, anchor=raised)
+        older = self.raised[:32] + (6).to_bytes(8, "big")
+        self.nothing("later write", "the anchor is older than the journal: use the last one", card=self.old, anchor=older)
         self.model.write(1, block("later"))
         self.nothing("earlier write", "the journal is of an earlier write than the anchor's last change", card=bytes(self.model.bytes))
         self.put(self.model)
-        self.assertEqual(self.accepted(*self.words), b"nothing to do: there is no journal: no write to this card was cut\n")
+        says = f"nothing to do: there is no journal beside the card; {self.put_back()}\n"
+        self.assertEqual(self.accepted(*self.words).decode(), says)
         self.assertEqual(self.report(*self.words)["journal"], "none")
         self.assertFalse(self.journal.exists())
 
     def test_a_journal_with_a_wrong_tag(self):
         says = "the journal has a wrong tag: it is damaged, or another card's. Where 'roundcard check' finds the card whole, it is not needed"
-        for place in range(8, 248, 5):
+        for place in (*range(8), *range(8, 248, 16)):
             spoiled = bytearray(self.last)
             spoiled[place] ^= 0x80
             self.nothing("wrong tag", says, journal=bytes(spoiled), card=self.old)
+        for root in (0, 3, 6, 12, 15, 2**64 - 1):
+            self.nothing("wrong tag", says, journal=root.to_bytes(8, "big") + self.last[8:], card=self.old)
         other = Card(bytes(16), 3)
-        for index in (5, 2, 5):
+        for index in (5, 2, 5, 1):
             journal = other.journalled(index, block("another card's"))[1]
-        self.nothing("wrong tag", says, journal=journal, card=self.old)
+            self.nothing("wrong tag", says, journal=journal, card=self.old)
 
     def test_zeros_are_no_journal(self):
-        says = "there is no journal: no write to this card was cut"
-        self.nothing("none", says, journal=bytes(248))
+        self.nothing("none", f"the journal beside the card is all zeros; {self.put_back()}", journal=bytes(248))
         self.model = Card(KEY, 3)
+        says = "there is no journal, and none is needed: T is 0"
         self.nothing("none", says, card=bytes(self.model.bytes), journal=bytes(248))
         self.both_equal(self.model)
 
@@ -99,8 +114,56 @@ class Recover(ToolCase):
         advice = self.refused(8, "check", self.anchor, self.card, node=2)["advice"]
         self.assertIn("'roundcard recover' puts its bytes in their places, and may mend a part of it; then see what is still refused", advice)
         self.assertIn("and mends it", self.refused(8, "read", self.anchor, self.card, "5", node=3)["advice"])
+        advice = self.refused(8, "read", self.anchor, self.card, "4", node=3)["advice"]
+        self.assertIn("puts its bytes in their places, and may mend a part of it", advice)
         self.accepted(*self.words)
         self.assertNotIn("recover", self.refused(8, "check", self.anchor, self.card, node=12)["advice"])
+
+    def without_journal(self, journal):
+        """A card of which two ranges are out, with this beside it."""
+        torn = bytearray(self.old)
+        for start, length in self.ranges[:2]:
+            torn[start : start + length] = self.new[start : start + length]
+        self.place(card=bytes(torn), journal=journal)
+        if journal is None:
+            self.journal.unlink()
+
+    def test_a_cut_card_without_its_journal(self):
+        before = Card(KEY, 3)
+        before.write(5, block("the old round"))
+        earlier = before.journalled(2, block("another"))[1]
+        last = self.anchor, self.card
+        for journal in (None, bytes(248), earlier):
+            self.without_journal(journal)
+            helps = "put back the card as format, write or wipe last left it, or put the journal of its last write beside it and recover it"
+            for words, node in ((("check", *last), 6), (("read", *last, "5"), 6), (("write", "--text", "x", *last, "6"), 7)):
+                self.assertTrue(self.refused(8, *words, node=node)["advice"].startswith(helps), words)
+            done = self.tool("write", "--text", "x", *last, "1")
+            says = b"roundcard write: warning: the card is damaged, and the journal of its last write is not beside it: if that write was cut, "
+            self.assertEqual(done.returncode, 0)
+            self.assertTrue(done.stderr.startswith(says))
+            self.assertEqual(self.tool("write", "--text", "y", *last, "1").stderr, b"")
+        self.without_journal(self.last)
+        self.assertTrue(self.report(*self.words)["recovered"])
+        self.journal.unlink()
+        self.accepted("write", "--text", "x", *last, "1")
+
+    def test_nothing_takes_the_journal_s_place(self):
+        self.place()
+        last, name = (self.anchor, self.card), self.journal.name
+        for there in (True, False):
+            for output in (name, f"./{name}", self.journal):
+                self.fails(USAGE, "read", "--output", output, *last, "1", says=["is the card's journal"])
+                self.fails(USAGE, "check", "--picture", output, *last, says=["is the card's journal"])
+                self.fails(USAGE, "format", "--force", "--depth", "3", output, self.card, says=["would be the card's journal"])
+                self.fails(USAGE, "format", "--depth", "3", "new.roundcard-journal", "new", says=["would be the card's journal"])
+            if there:
+                (self.room / "link").symlink_to(self.journal)
+                self.fails(USAGE, "read", "--output", "link", *last, "1", says=["is the card's journal"])
+                (self.room / "link").unlink()
+                self.journal.unlink()
+        (self.room / "other").mkdir()
+        self.accepted("read", "--output", f"other/{name}", *last, "5")
 
     def test_reads_do_not_change_the_card(self):
         self.place(card=self.old)
@@ -116,7 +179,8 @@ class Recover(ToolCase):
             for words in (self.words, ("write", "--text", "x", self.anchor, self.card, "1")):
                 advice = self.refused(10, *words, says=[f"the journal file {says}"])["advice"]
                 self.assertTrue(advice.startswith("put back the journal as the last write left it; where 'roundcard check' finds the card whole"))
-            self.assertNotIn("recover", self.refused(8, "check", self.anchor, self.card, node=2)["advice"])
+            self.assertNotIn("'roundcard recover'", self.refused(8, "check", self.anchor, self.card, node=2)["advice"])
+        self.assertTrue(advice.endswith("; if it is lost, remove it, and see with 'check --all' what is still read"))
         self.place(journal=bytes(17))
         self.accepted("check", self.anchor, self.card)
         self.journal.unlink()
@@ -197,6 +261,15 @@ class Recover(ToolCase):
         self.assertEqual((folder / "box.card").read_bytes(), self.new)
         self.accepted("write", "--text", "x", self.anchor, self.card, "1")
         self.assertEqual({path.name for path in folder.iterdir()}, {"box.card", "box.card.roundcard-journal"})
+
+    def test_it_waits_behind_a_read(self):
+        self.place(card=self.old)
+
+        def meanwhile():
+            self.assertEqual(self.card.read_bytes(), self.old)
+
+        self.assertIn(b"recovered", self.wait_behind_a_lock(fcntl.LOCK_SH, self.words, meanwhile))
+        self.assertEqual(self.card.read_bytes(), self.new)
 
     def test_the_journal_is_as_open_as_the_card(self):
         for mode in (0o600, 0o640, 0o644, 0o666, 0o755):

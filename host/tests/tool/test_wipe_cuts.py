@@ -140,7 +140,7 @@ class WipeCuts(FaultCase):
                 done += 1
             self.expect_mended()
         self.assertGreaterEqual(done, 4)
-        self.assertEqual(k, 19)
+        self.assertEqual(k, 18)
 
     def test_cut_of_a_write_is_mended_by_a_wipe(self):
         words = "write", "--text", "x", self.anchor, self.card, "5"

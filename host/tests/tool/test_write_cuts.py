@@ -119,7 +119,7 @@ class WriteCuts(FaultCase):
         cut = self.both(), self.journal.read_bytes()
         ranges = [f"pwrite box.card {start} {length}" for start, length in self.ranges]
         steps = self.steps("recover", self.anchor, self.card)
-        self.assertEqual(steps, ["fsync box.anchor", f"fsync {self.room.name}", *ranges, "fsync box.card", "fsync box.card"])
+        self.assertEqual(steps, ["fsync box.anchor", f"fsync {self.room.name}", *ranges, "fsync box.card"])
         for k in range(len(steps)):
             for again in (("recover", self.anchor, self.card), ("write", "--text", "x", self.anchor, self.card, "4")):
                 with self.subTest(calls_made=k, again=again[0]):
@@ -135,10 +135,41 @@ class WriteCuts(FaultCase):
                     else:
                         self.expect_next(anchor, "write")
 
+    def test_a_recovery_puts_out_what_is_read_in_its_place(self):
+        """After a sync that failed, what is read may be on no medium, and a sync alone does not put it there."""
+        recover = "recover", self.anchor, self.card
+        self.assertEqual(self.steps(*recover), ["fsync box.card"])
+        self.failing("fsync:8", errno.EIO, *self.words)
+        self.assertEqual(self.both(), self.new)
+        ranges = [f"pwrite box.card {start} {length}" for start, length in self.ranges]
+        settled = ["fsync box.anchor", f"fsync {self.room.name}", *ranges, "fsync box.card"]
+        for _ in range(2):
+            self.assertEqual(self.steps(*recover), settled)
+            self.assertEqual(self.both(), self.new)
+        self.assertEqual(self.report(*recover)["journal"], "in place")
+        self.assertEqual(self.steps("write", "--text", "x", self.anchor, self.card, "4")[: len(settled)], settled)
+
+    def test_signals_at_every_call_of_a_recovery(self):
+        recover = "recover", self.anchor, self.card
+        for k in range(1, 10):
+            self.start_again()
+            self.run_with("pwrite:4:cut", *self.words)
+            self.assertEqual(self.signalled(f"any:{k}", int(signal.SIGTERM), *recover), -signal.SIGTERM)
+            self.assertEqual(self.said, "roundcard recover: the card is recovered, and a signal came meanwhile\n")
+            self.assertEqual(self.both(), self.new)
+
+    def test_a_journal_that_cannot_have_the_card_s_owner(self):
+        """Another group gets no rights from that of the card's."""
+        self.give(self.card, 1234, 1235)
+        self.card.chmod(0o664)
+        self.assertEqual(self.run_with(f"fchown:1:{errno.EPERM}", *self.words).returncode, 0)
+        self.assertEqual(self.both(), self.new)
+        self.assertEqual(stat.S_IMODE(self.journal.stat().st_mode), 0o604)
+
     def test_two_cuts(self):
         steps = len(self.expected_steps())
-        for first in range(0, steps, 3):
-            for second in range(steps):
+        for first in range(0, steps, 6):
+            for second in range(first // 6 % 2, steps + 2 + len(self.ranges), 2):
                 self.start_again()
                 self.run_with(f"any:{first + 1}:cut", *self.words)
                 self.run_with(f"any:{second + 1}:cut", *self.words)
@@ -179,6 +210,11 @@ class WriteCuts(FaultCase):
         message = self.failing("write:1", errno.EIO, "write", "--text", "x", self.anchor, self.card, "4")
         self.assertIn("cannot replace the anchor file", message)
         self.assertEqual(self.both(), self.new)
+        self.start_again()
+        self.run_with("pwrite:3:cut", *self.words)
+        message = self.failing("rename:2", errno.ENOSPC, "write", "--text", "x", self.anchor, self.card, "4")
+        self.assertIn("the block is not written: H is raised, the last write is recovered, and nothing else is changed", message)
+        self.assertEqual(self.card.read_bytes(), self.new[0])
 
     def stopped(self, fault):
         """A write that stands still at a call, and goes on when it is told."""
