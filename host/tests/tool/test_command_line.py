@@ -56,7 +56,7 @@ class CommandLine(ToolCase):
         output = " ".join(self.accepted("help", "wipe").decode().split())
         for part in ("Every round on it is lost", "no earlier copy of the card will be accepted again"):
             self.assertIn(part, output)
-        self.assertIn("A cut before the new anchor file is in place changes nothing.", output)
+        self.assertIn("A cut before the new anchor file is in place changes nothing but what the recovery before it does.", output)
         self.assertIn("Wipe it again: that mends it, whatever the cut left.", output)
 
     def test_version(self):
