@@ -6,7 +6,8 @@ use super::card::{Card, Proved};
 use super::places::Places;
 use super::store::{Drawn, Store, DRAWN};
 use super::tables::nanoseconds;
-use super::{DEEPEST, DEPTHS};
+use super::targets::print_most;
+use super::DEEPEST;
 use crate::clock::stopwatch;
 use crate::report::{print_head, print_line};
 use crate::subject::KEY;
@@ -209,28 +210,6 @@ pub fn measure() -> Result<Vec<Found>, String> {
     Ok(found.collect())
 }
 
-/// Prints the target: the ratios at the depths of the tables, and where it is largest.
-fn print_target(found: &[Found]) {
-    let shown = DEPTHS.map(|depth| format!("{:.3}", found[depth as usize - 1].ratio()));
-    let worst = found
-        .iter()
-        .max_by(|one, other| one.ratio().total_cmp(&other.ratio()))
-        .expect("there are depths");
-    let verdict = match worst.ratio() <= TARGET {
-        true => "reached",
-        false => "not reached",
-    };
-    println!(
-        "- journalled write at most {TARGET:.2} of a write and a CMAC of 56n + 64 bytes: {verdict}"
-    );
-    println!(
-        "  ({}; of depths 1 to {DEEPEST} the most {:.3}, at {})\n",
-        shown.join(", "),
-        worst.ratio(),
-        worst.depth
-    );
-}
-
 /// Prints the table; a step of the clock lasts so long.
 pub fn print(found: &[Found], pace: f64) {
     println!("## A journalled write, and recovery\n");
@@ -256,14 +235,17 @@ pub fn print(found: &[Found], pace: f64) {
         print_line(cells);
     }
     println!();
-    print_target(found);
+    let ratios: Vec<f64> = found.iter().map(Found::ratio).collect();
+    let text =
+        format!("journalled write at most {TARGET:.2} of a write and a CMAC of 56n + 64 bytes");
+    print_most(&text, TARGET, &ratios);
 }
 
 #[cfg(test)]
 mod tests {
     use super::*;
 
-    /// Both cards keep up with each other, whatever was timed between, and another byte is found.
+    /// Both cards keep up with each other, whatever was timed between, and one that missed a write is found.
     #[test]
     fn journalled_writes_are_writes() {
         let drawn = Drawn::new();
@@ -275,6 +257,8 @@ mod tests {
             }
             assert_eq!(cards.turns[0], cards.turns[1]);
             assert!(cards.journalled.check());
+            cards.turns[1] += 1;
+            cards.compare(&drawn).expect_err("a write is missing");
         }
     }
 }

@@ -7,7 +7,8 @@ use super::card::{Card, Proved};
 use super::places::Places;
 use super::store::{Drawn, Store, DRAWN};
 use super::tables::nanoseconds;
-use super::{DEEPEST, DEPTHS};
+use super::targets::print_most;
+use super::DEEPEST;
 use crate::clock::stopwatch;
 use crate::report::{print_head, print_line};
 use crate::subject::KEY;
@@ -211,25 +212,6 @@ pub fn measure() -> Result<Vec<Found>, String> {
     Ok(found.collect())
 }
 
-/// Prints the target: the ratios at the depths of the tables, and where it is largest.
-fn print_target(found: &[Found]) {
-    let shown = DEPTHS.map(|depth| format!("{:.3}", found[depth as usize - 1].ratio()));
-    let worst = found
-        .iter()
-        .max_by(|one, other| one.ratio().total_cmp(&other.ratio()))
-        .expect("there are depths");
-    let verdict = match worst.ratio() <= TARGET {
-        true => "reached",
-        false => "not reached",
-    };
-    println!(
-        "- split write at most {TARGET} of a write: {verdict} ({}; of depths 1 to {DEEPEST} the most {:.3}, at {})\n",
-        shown.join(", "),
-        worst.ratio(),
-        worst.depth
-    );
-}
-
 /// Prints the table; a step of the clock lasts so long.
 pub fn print(found: &[Found], pace: f64) {
     println!("## A write in two parts\n");
@@ -260,7 +242,9 @@ pub fn print(found: &[Found], pace: f64) {
         );
     }
     println!();
-    print_target(found);
+    let ratios: Vec<f64> = found.iter().map(Found::ratio).collect();
+    let text = format!("split write at most {TARGET} of a write");
+    print_most(&text, TARGET, &ratios);
 }
 
 #[cfg(test)]

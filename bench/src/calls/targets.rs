@@ -50,6 +50,23 @@ fn print_target(
     );
 }
 
+/// Prints one target of a call that is set against others of the library: the multiples at the depths of the tables, and where
+/// of depths 1 to 16 it is largest.
+pub fn print_most(text: &str, most: f64, ratios: &[f64]) {
+    let shown = DEPTHS.map(|depth| format!("{:.3}", ratios[depth as usize - 1]));
+    let all = ratios.iter().zip(1..);
+    let worst = all.max_by(|one, other| one.0.total_cmp(other.0));
+    let (worst, depth) = worst.expect("there are depths");
+    let verdict = match *worst <= most {
+        true => "reached",
+        false => "not reached",
+    };
+    println!(
+        "- {text}: {verdict} ({}; of depths 1 to {DEEPEST} the most {worst:.3}, at {depth})\n",
+        shown.join(", ")
+    );
+}
+
 /// Prints that a wipe costs what a format costs, at the depths of the tables.
 fn print_wipe_target(results: &Results) {
     let ratios =
