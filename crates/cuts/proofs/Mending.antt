@@ -26,7 +26,8 @@ use Rattle.journal.proofs.BlockLaws.{block-own}
 use Rattle.journal.proofs.BackLaws.{Beside, beside-none, beside-trans, ranges-back}
 use Rattle.journal.proofs.JournalLaws.{applies-is, list-told, new-told, own-message, own-applies}
 use Rattle.replay.specs.Run.{State}
-use Rattle.cuts.proofs.Messages.{among-or-not, Told}
+use Rattle.replay.proofs.Agreement.{among-or-not}
+use Rattle.cuts.proofs.Messages.{Told}
 
 pub beside-refl : (rs : List Range) (c : List ℕ) → Beside rs c c
 beside-refl rs c = record { long = refl; stands = λ j out. refl }

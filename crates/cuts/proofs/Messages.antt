@@ -1,16 +1,13 @@
 -- Which messages of journals are tagged: none has a root nonce above the reserved one, and one with the root nonce of now is that of the
 -- write that left the card.
-use mathlib.Core.Path.{◌≡◌, refl, sym, ap, subst, ◌∙◌}
-use mathlib.Core.Bool.{Bool, true, false}
+use mathlib.Core.Path.{◌≡◌, sym, ap, subst, ◌∙◌}
 use mathlib.Core.List.Memᴰ
-use mathlib.Core.List.{List, [], ◌∷◌, ◌++◌, map, Memᴰ}
+use mathlib.Core.List.{List, ◌++◌, map, Memᴰ}
 use mathlib.Core.Logic.{◌⊎◌, inl, inr, ⊎_elim}
 use Prim.Native.Nat.{ℕ, ◌+◌, ◌^◌, ◌<◌, ◌≤◌}
 use native.Mathlib.Omega.{arith}
 use lib.ListN.{length, take}
 use lib.Seq.{take_at}
-use Rattle.words.specs.Bytes.{same}
-use Rattle.words.proofs.Same.{same-is, same_refl}
 use Rattle.tree.specs.Numbers.{be8}
 use Rattle.tree.specs.Layout.{IsNode}
 use Rattle.tree.specs.Labels.{Labels, message, labels, blank_labels, new_labels}
@@ -31,22 +28,6 @@ use Rattle.replay.specs.Claim.{Complete, Untouched}
 use Rattle.replay.specs.Tagged.{BlankTags, WriteTags, CallTags, JournalTags, StepTags}
 use Rattle.replay.proofs.Moves.{Tags, Move, still, wrote-block, lost-block, wiped-card, move}
 use Rattle.replay.proofs.Since.{named_blank}
-
--- a message is among others or not
-pub among-or-not : (m : List ℕ) (M : List (List ℕ)) → Memᴰ m M ⊎ (Memᴰ m M → ⊥)
-among-or-not m [] = inr (λ h. Memᴰ.not-nil h)
-among-or-not m (x ∷ M) = go (same m x) refl (among-or-not m M)
-  where
-    go : (b : Bool) → same m x ≡ b → Memᴰ m M ⊎ (Memᴰ m M → ⊥) → Memᴰ m (x ∷ M) ⊎ (Memᴰ m (x ∷ M) → ⊥)
-    go true e r = inl (Memᴰ.head (same-is m x e))
-    go false e (inl h) = inl (Memᴰ.tail h)
-    go false e (inr d) = inr (λ k. ⊎_elim (λ (p : m ≡ x). differ p) d (Memᴰ.cases_cons k))
-      where
-        differ : m ≡ x → ⊥
-        differ p =
-            let t = ap (same m) (sym p) ∙ same_refl m in
-            let z : ◌≡◌ {A = ℕ} 0 1 = cc in
-            omega arith
 
 -- m is as long as a journal's message, and begins with the root nonce t
 pub record IsJournal (n t : ℕ) (m : List ℕ) : Type 0 where

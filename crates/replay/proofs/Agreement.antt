@@ -23,7 +23,7 @@ use Rattle.plan.proofs.ListLaws.{truth, contrary}
 use Rattle.replay.proofs.Steady.{Safe, safe-steady, wipe-safe}
 
 -- a message is among others or not
-among-or-not : (m : List ℕ) (M : List (List ℕ)) → Memᴰ m M ⊎ (Memᴰ m M → ⊥)
+pub among-or-not : (m : List ℕ) (M : List (List ℕ)) → Memᴰ m M ⊎ (Memᴰ m M → ⊥)
 among-or-not m [] = inr (λ h. Memᴰ.not-nil h)
 among-or-not m (x ∷ M) = go (same m x) refl (among-or-not m M)
   where
