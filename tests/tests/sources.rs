@@ -76,10 +76,22 @@ fn the_cipher_has_one_caller() {
 /// journal's, and both times its count is left.
 #[test]
 fn tags_are_made_of_messages_and_journals() {
+    assert_eq!(
+        files_with("tag_under("),
+        ["cmac/lib.rt"; 3],
+        "its head and two calls"
+    );
+    for parts in [
+        "(&aes, &[0; 32], &[0; 16])",
+        "(&self.aes, &self.subkeys, message)",
+    ] {
+        let made = format!("tag_under{parts}");
+        assert_eq!(files_with(&made), ["cmac/lib.rt"], "{made}");
+    }
     let callers = files_with("context.tag(");
     let journals = ["recovery/within.rt"; 2];
-    assert_eq!(callers[..2], ["cmac/lib.rt", "card/message.rt"]);
-    assert_eq!(callers[2..], journals);
+    assert_eq!(callers[..1], ["card/message.rt"]);
+    assert_eq!(callers[1..], journals);
     for message in ["filled.message()).value", "journal.message()).value"] {
         let made = format!("context.tag({message}");
         assert_eq!(files_with(&made), journals[..1], "{made}");
@@ -106,14 +118,14 @@ fn each_call_makes_one_context() {
         assert_eq!(files_with(&call), ["calls/lib.rt"], "{call}");
     }
     assert_eq!(files_with("within::plan("), ["split/lib.rt"]);
-    assert_eq!(files_with("new.lay("), ["split/within.rt"]);
+    assert_eq!(files_with(".lay("), ["split/within.rt"]);
     // pat's is host_split::plan.
     assert_eq!(
         files_with("split::plan("),
         ["host_split/lib.rt", "pat/lib.rt"]
     );
     assert_eq!(files_with("host_split::plan("), ["pat/lib.rt"]);
-    for part in ["walk::path(", "walk::all(", "new.stamp(", "stamp::blank("] {
+    for part in ["walk::path(", "walk::all(", ".stamp(", "stamp::blank("] {
         assert_eq!(files_with(part), ["work/lib.rt"], "{part}");
     }
     let within = ["work/lib.rt", "recovery/within.rt"];

@@ -241,10 +241,13 @@ pub fn equal(left: Block, right: Block) -> bool
     left == right
 }
 
-// Puts another string into a string from one of its bytes on. The slice and the copy stand here once, with the definitions' `sets`.
+// Puts another string into a string from one of its bytes on. By a loop, which becomes memcpy: `copy_from_slice` becomes memmove here, a
+// name more that the archives for C would need.
 pub fn put(string: &mut [u8], start: usize, piece: &[u8])
     requires { start + length piece.now ≤ length string.old }
     ensures { string.new ≡ sets string.old start piece.now }
 {
-    string[start..start + piece.len()].copy_from_slice(piece);
+    for i in 0..piece.len() {
+        string[start + i] = piece[i];
+    }
 }

@@ -1,6 +1,5 @@
-use Rattle.std.proofs.Common.{rules}
-use Rattle.words.proofs.Stores.{sets-put_mid}
+use Rattle.words.proofs.Stores.{sets_more}
 use Rattle.words.proofs.put.Goals as goal
 
-pub returns : goal.returns
-returns c = search (rules, sets-put_mid)
+pub loop-i-preserved : goal.loop-i-preserved
+loop-i-preserved c = rw c.loop-i.invariant (sets_more _ _ _ _ c.loop-i-test.true)

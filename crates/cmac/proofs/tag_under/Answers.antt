@@ -6,7 +6,7 @@ use Rattle.cmac.specs.Context.{tag_under}
 use Rattle.cmac.proofs.Chain.{turns, turns_more, taken, turns-whole}
 use Rattle.cmac.proofs.Count.{last-counted, some-blocks}
 use Rattle.cmac.proofs.TraceLaws.{count_under_lem}
-use Rattle.cmac.proofs.Context.tag.Goals as goal
+use Rattle.cmac.proofs.tag_under.Goals as goal
 
 pub overflow_add-i-end : goal.overflow_add-i-end
 overflow_add-i-end c =
@@ -22,7 +22,7 @@ loop-i-init c = record {
 
 pub loop-i-preserved : goal.loop-i-preserved
 loop-i-preserved c =
-    let e = cipher_of c.args.self.now.aes.schedule in
+    let e = cipher_of c.args.aes.now.schedule in
     let f = taken c.args.message.now (block_of c.last-last.result) c.before_last-before.result in record {
       inside = c.loop-i.invariant.inside;
       state =
@@ -35,7 +35,7 @@ loop-i-preserved c =
 pub returns-clause-value : goal.returns-clause-value
 unfolding tag_under
 returns-clause-value c =
-    let e = cipher_of c.args.self.now.aes.schedule in
+    let e = cipher_of c.args.aes.now.schedule in
     let m = c.args.message.now in
     let n = c.before_last-before.result in
     let i : c.loop-i.i ≡ n + 1 = omega arith in
@@ -47,4 +47,4 @@ returns-clause-count c =
     let m = c.args.message.now in
     let i : c.loop-i.i ≡ c.before_last-before.result + 1 = omega arith in
     c.loop-i.invariant.calls ∙ i ∙ ap (λ (k : ℕ). k + 1) c.before_last-before.ensures ∙ some-blocks (length m)
-    ∙ sym (count_under_lem c.args.self.now.aes.schedule c.args.self.now.subkeys m)
+    ∙ sym (count_under_lem c.args.aes.now.schedule c.args.subkeys.now m)
