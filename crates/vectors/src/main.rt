@@ -61,11 +61,7 @@ fn encrypted(rt: &impl Print, label: &str, key: [u8; 16], input: &[u8]) -> io::R
     line(rt, label, Aes128::new(key).encrypt(Block::at(input, 0)))
 }
 
-// Prints a label and a block in hexadecimal.
+// Prints a label and a block in hexadecimal, in one piece.
 fn line(rt: &impl Print, label: &str, block: Block) -> io::Result<()> {
-    print!(rt; "{label:<22}")?;
-    for byte in <[u8; 16]>::from(block) {
-        print!(rt; "{byte:02x}")?;
-    }
-    println!(rt)
+    println!(rt; "{label:<22}{:032x}", u128::from_be_bytes(block.into()))
 }
