@@ -16,7 +16,7 @@ use Rattle.std.proofs.lemmas.List.Concat.{flat_map-append, flat_map_single}
 use Rattle.std.proofs.lemmas.List.FromFn.{map-range_with_len_more}
 use Rattle.cmac.specs.Context.{tag_by, count_by}
 use Rattle.cmac.specs.declared.Context.{Context}
-use Rattle.cmac.proofs.TraceLaws.{count-bound}
+use Rattle.cmac.proofs.TraceLaws.{count-by-bound}
 use Rattle.tree.specs.declared.Node.{Node}
 use Rattle.tree.specs.declared.Error.TheVariants.{WrongTag}
 use Rattle.tree.specs.Layout.{IsNode}
@@ -35,9 +35,9 @@ use Rattle.card.specs.declared.view.CardView.{CardView}
 
 -- a node's message has at most 73 bytes, and so takes at most five calls
 pub few-calls : (c : Context) (m : List ℕ) (k : ℕ) → k ≡ count_by c m → length m ≤ 73 → k ≤ 5
-few-calls c m k e h = omega (arith, count-bound c.aes.schedule c.subkeys m)
+few-calls c m k e h = omega (arith, count-by-bound c m)
 
-few-checked : (c : Context) (v : CardView) (u k : ℕ) → IsNode v.depth.levels u
+pub few-checked : (c : Context) (v : CardView) (u k : ℕ) → IsNode v.depth.levels u
     → k ≡ count_by c (message (labels v.depth.levels v.root.0 v.bytes.now) u) → k ≤ 5
 few-checked c v u k h e =
     let n = v.depth.levels in

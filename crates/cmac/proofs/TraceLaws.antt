@@ -82,6 +82,10 @@ count_under_lem schedule subkeys m = trace-length (cipher_of schedule) (part sub
 pub count-bound : (schedule subkeys m : List ℕ) → 16 * count_under schedule subkeys m ≤ length m + 16
 count-bound schedule subkeys m = omega (arith, count_under_lem schedule subkeys m, blocks-bound (length m))
 
+-- the same of a context, for callers that look no further into it
+pub count-by-bound : (c : Context) (m : List ℕ) → 16 * count_by c m ≤ length m + 16
+count-by-bound c m = count-bound c.aes.schedule c.subkeys m
+
 -- with zeros for the subkeys, the zero block takes as many as the subkeys do
 pub count-of-zeros : (schedule : List ℕ)
     → count_under schedule (replicate 32 0) (replicate 16 0) ≡ length (subkeys_traced (cipher_of schedule)).trace

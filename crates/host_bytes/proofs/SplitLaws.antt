@@ -25,10 +25,10 @@ module _ (s x y : List ℕ) (k : ℕ) where
   abbrev pub Lengths : Type 0
   Lengths = (length s ≡ anchor_bytes) × (length x ≡ plan_bytes) × (length y ≡ k)
 
-  all_right : Lengths → lengths ≡ true
+  pub all_right : Lengths → lengths ≡ true
   all_right (e, f, g) = rw (eq-eqb (length s) anchor_bytes e, eq-eqb (length x) plan_bytes f, eq-eqb (length y) k g)
 
-  one-wrong : (Lengths → ⊥) → lengths ≡ false
+  pub one-wrong : (Lengths → ⊥) → lengths ≡ false
   one-wrong d = go (eqb (length s) anchor_bytes) (eqb (length x) plan_bytes) (eqb (length y) k) refl refl refl
     where
       go : (a b c : Bool) → eqb (length s) anchor_bytes ≡ a → eqb (length x) plan_bytes ≡ b → eqb (length y) k ≡ c → (a && (b && c)) ≡ false
